@@ -1,5 +1,5 @@
 //! Runs in memory.
-use crate::{Found, JoinRefusal, find, put_source};
+use crate::{JoinRefusal, find, put_source};
 use sj_base::{MemSink, MemSource};
 use sj_remote::{Conn, TalkRefusal};
 use std::alloc::Global;
@@ -66,13 +66,11 @@ fn connect(alloc: Global, came: &[u8]) -> Result<Conn<MemSource, MemSink>, Fail>
 #[test]
 fn streams_are_joined(rt: HostRuntime) -> Result<(), Fail> {
     let mut conn = connect(rt.alloc(), CAME)?;
-    let Ok(
-        Found {
-            mut text,
-            run: Some((file, lines)),
-        },
-    ) = find(rt.alloc(), &mut conn, b"r")
-    else {
+    let Ok(found) = find(rt.alloc(), &mut conn, b"r") else {
+        return Err(Fail::from("nothing found"));
+    };
+    let mut text = found.text;
+    let Some((file, lines)) = found.run else {
         return Err(Fail::from("no run"));
     };
     put_source(&mut text, &file, &lines)?;
