@@ -1,0 +1,24 @@
+-- Entries of the party's stream, done again one after another.
+use Rattle.std.proofs.Common.{◌≡◌, ◌∙◌, ℕ, List, [], ◌++◌, refl, ap}
+use Rattle.sj_lang.specs.FileAt.{FileAt}
+use Rattle.sj_node.specs.Node.{node_at, wants_of}
+use Rattle.sj_node.specs.Play.{next_want}
+use Rattle.sj_node.specs.Reading.{TakesEntry, TakesOut, table_of}
+use Rattle.sj_node.specs.declared.node.Node.{Node}
+use Rattle.sj_seat.specs.declared.guest.Guest.{Guest}
+use Rattle.sj_semantics.specs.declared.Want.TheVariants as wants
+use Rattle.sj_table.specs.declared.table.Table.{Table}
+use Rattle.sj_work.specs.Laned.{entries_of}
+use Rattle.sj_remote_seat.specs.Turns.{CaughtUp, DidAgain}
+use Rattle.sj_remote_seat.proofs.SatLemmas.{Resembles, sat_still, sat_then, still_itself}
+
+-- a node that looks the same has nothing to do either
+pub idle_like : (a b : Node) → Resembles a b → wants_of a ≡ wants.Ended → wants_of b ≡ wants.Ended
+idle_like a b x idle = ap (λ n. next_want n.program) x.node ∙ idle
+
+module _ {O I G : Type 0} where
+  pub caught_none : (a : Guest O I G) → CaughtUp a a
+  caught_none a = record { entries = []; sat = sat_still a a (still_itself a) }
+
+  pub caught_more : (file : FileAt) (words : List (List ℕ)) (a b c : Guest O I G) → CaughtUp a b → DidAgain file words b c → CaughtUp a c
+  caught_more file words a b c x y = record { entries = x.entries ++ entries_of y.noted; sat = sat_then a b c x.entries (entries_of y.noted) x.sat y.sat }

@@ -1,0 +1,3 @@
+mod CaughtLemmas
+mod DeliveredLemmas
+mod SatLemmas
