@@ -1,3 +1,4 @@
 mod CaughtLemmas
 mod DeliveredLemmas
+mod PlayedLemmas
 mod SatLemmas

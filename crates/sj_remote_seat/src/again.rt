@@ -1,8 +1,10 @@
 //! An entry of the party's stream, done again.
-ghost use Rattle.std.specs.Prelude.{◌≡◌, [], IfOk};
+ghost use Rattle.std.specs.Prelude.{◌≡◌, [], IfOk, IsTrue, map};
 ghost use Rattle.sj_check.specs.Held.{file_in};
+ghost use Rattle.sj_engine.specs.Lanes.{pushed_on};
 ghost use Rattle.sj_lang.specs.FileView.{file_of};
 ghost use Rattle.sj_node.specs.Node.{log_of};
+ghost use Rattle.sj_remote_run.specs.Entries.{entry_words};
 ghost use Rattle.sj_remote_seat.specs.Turns.{DidAgain, Sat};
 ghost use Rattle.sj_seat.specs.Views.{node_of};
 ghost use Rattle.sj_streams.specs.Words.{words_at};
@@ -14,7 +16,9 @@ use crate::events::redo;
 use crate::seat::Seat;
 use sj_check::Accepted;
 use sj_end::Entry;
-use sj_remote_run::{PlayRefusal, clear, is_entry, lines_in};
+use sj_engine::ByteOut;
+use sj_lang::File;
+use sj_remote_run::{PlayRefusal, batch_words, clear, lines_in, same_words};
 use sj_seat_run::Play;
 use sj_streams::lines_of;
 use sj_work::Worker;
@@ -44,6 +48,26 @@ fn redo_lines<'a, C: Play>(
         made.push(line.entry)?;
     }
     Ok((going, made))
+}
+
+/// Whether the words are those of the entry that the party adds: the lines of its events, and the
+/// frames that were pushed on its lanes.
+fn is_entry(
+    alloc: Global,
+    file: &File,
+    party: u16,
+    entries: &[Entry],
+    outs: &[ByteOut],
+    words: &[Vec<u8>],
+) -> Result<bool, PlayRefusal>
+    ensures { IfOk result (λ same. IsTrue same → words_at words.now
+        ≡ entry_words (file_of file.now) party entries.now (map pushed_on outs.now)) }
+{
+    if outs.len() >= 65_536 {
+        return Ok(false);
+    }
+    let made = batch_words(alloc, file, party, entries, outs)?;
+    Ok(same_words(&made, words))
 }
 
 /// Does a batch again whose entry has these words. It has to be the very entry that the party adds

@@ -41,8 +41,7 @@ fn take_turns<'a, C: Play>(
 fn outcome_of(stop: Option<Stop>, over: bool) -> Result<Outcome, PlayRefusal> {
     match stop {
         None => Ok(Outcome::Waits),
-        Some(Stop::Finished) if !over => Ok(Outcome::Waits),
-        Some(stop) => stands(stop),
+        Some(stop) => stands(stop, over && matches!(stop, Stop::Finished)),
     }
 }
 

@@ -20,7 +20,9 @@ use sj_engine::{ByteIn, ByteOut};
 use sj_lane::Lanes;
 use sj_lang::File;
 use sj_remote::{Conn, Streams};
-use sj_remote_run::{Outcome, Play, PlayRefusal, Player, add, enter, exchange, read_all};
+use sj_remote_run::{
+    Outcome, Play, PlayRefusal, Player, add, exchange, new_lanes, read_all, share, sign_in,
+};
 use sj_seat::{Guest, seat_table};
 use sj_streams::Came;
 use sj_table::Table;
@@ -152,11 +154,15 @@ pub fn play_seat<S: Source + Drop, K: Sink + Drop, C: sj_seat_run::Play>(
 ) -> Result<Outcome, SeatPlayRefusal>
     requires { how.now.party < length (file_of (file_in accepted.now)).parties }
 {
+    sign_in(alloc, conn, how.user, how.password)?;
+    share(alloc, conn, accepted.file(), how.run)?;
+    let parties = accepted.file().parties.len() as u16;
+    let mut streams = Streams::new(alloc, how.run, parties)?;
+    let mut lanes = new_lanes(alloc, parties)?;
+    let mut own = Vec::new(alloc);
+    read_all(alloc, conn, &mut streams, &mut lanes.ins, how.party, &mut own)?;
     let gate = NoGate;
     let mut asking = Asking::new(alloc);
-    let mut streams = enter(alloc, conn, accepted, how)?;
-    let parties = accepted.file().parties.len() as u16;
-    let (lanes, own) = read_all(alloc, conn, &mut streams, parties, how.party)?;
     let seat = take_seat(alloc, accepted, how.party, lanes, &gate)?;
     let seat = catch_up(alloc, accepted, seat, &own, &mut asking, code)?;
     let outcome = go_on(
