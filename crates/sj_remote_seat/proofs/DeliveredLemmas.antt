@@ -6,7 +6,7 @@ use Rattle.sj_lang.specs.FileAt.{FileAt}
 use Rattle.sj_lang.specs.Place.{Place, done}
 use Rattle.sj_node.specs.Node.{log_of, node_at, play_here, wants_of}
 use Rattle.sj_node.specs.Play.{next_want}
-use Rattle.sj_node.specs.Reading.{parties_of, party_of}
+use Rattle.sj_node.specs.Reading.{parties_of, party_of, table_of}
 use Rattle.sj_node.specs.declared.node.Node.{Node}
 use Rattle.sj_rules.specs.Frames.{FrameAt}
 use Rattle.sj_rules.specs.Log.{EntryAt}
@@ -60,6 +60,9 @@ module _ (m n : Node) (from : ℕ) (f : FrameAt Spot) (d : IsDelivered from f m 
   idle_delivered idle =
       let t = came_stepped m n from f d in
       ap next_want (program_stays (play_here m) (party_of m) (node_at m) (node_at n) t.step from _ t.is t.steps) ∙ idle
+
+  pub table_delivered : table_of n ≡ table_of m
+  table_delivered = let t = came_stepped m n from f d in t.keeps.table
 
   ran_delivered : (file : FileAt) (s : SeatedAt) (e : Entry) → length file.parties ≡ parties_of m → log_of m ≡ [] → log_of n ≡ e ∷ [] → Ran file s s m n (entry_at e ∷ [])
   ran_delivered file s e parties empty only =

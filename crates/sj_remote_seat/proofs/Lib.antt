@@ -1,3 +1,4 @@
+mod ApartLemmas
 mod CaughtLemmas
 mod DeliveredLemmas
 mod PlayedLemmas

@@ -6,6 +6,7 @@ ghost use Rattle.sj_seat_run.specs.Played.{Played};
 
 use crate::SeatPlayRefusal;
 use crate::asking::Asking;
+use crate::turns::perform;
 use sj_base::Msg;
 use sj_core::is_the_line;
 use sj_end::{Entry, Line, Note};
@@ -63,7 +64,7 @@ fn repeat<O: OutLane, I: InLane, G: Gate>(
     ensures played { Played O.OutLane I.InLane guest.old guest.new }
     ensures only { OnOk result (log_of (node_of guest.new) ≡ entry.now ∷ []) }
 {
-    let told = guest.perform(wish);
+    let told = perform(guest, wish);
     asking.answer(told);
     match told {
         Ok(_) if is_only(guest.worker().node(), entry) => Ok(()),

@@ -96,5 +96,6 @@ pub(crate) fn do_again<'a, C: Play>(
         return Err(SeatPlayRefusal::Party(PlayRefusal::LogFault));
     }
     clear(&mut lanes.outs);
-    Ok(holdings.with_worker(Worker::new(node, lanes)))
+    let worker = Worker::new(node, lanes);
+    Ok(holdings.with_worker(worker))
 }

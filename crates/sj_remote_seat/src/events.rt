@@ -67,14 +67,16 @@ fn act_again<'a, C: Play>(
     ensures sat { IfOk result (λ new. Sat seat.entry new (entry_at entry.now ∷ [])) }
     ensures none { IfOk result (λ new. log_of (node_of new) ≡ []) }
 {
-    let (worker, holdings) = seat.into_parts();
-    let (mut lanes, node, _) = worker.into_parts();
-    let mut guest = holdings.with_worker(Worker::new(node, no_lanes(alloc)));
+    let (before, holdings) = seat.into_parts();
+    let (mut lanes, node, _) = before.into_parts();
+    let bare = Worker::new(node, no_lanes(alloc));
+    let mut guest = holdings.with_worker(bare);
     ask_for(&mut guest, asking, code, entry)?;
-    let (worker, holdings) = guest.into_parts();
-    let (_, mut node, _) = worker.into_parts();
+    let (after, holdings) = guest.into_parts();
+    let (_, mut node, _) = after.into_parts();
     push_all(alloc, &mut node, &mut lanes)?;
-    Ok(holdings.with_worker(Worker::new(node, lanes)))
+    let worker = Worker::new(node, lanes);
+    Ok(holdings.with_worker(worker))
 }
 
 /// Does again the delivery that the entry notes. Its frame comes from its lane.
@@ -94,7 +96,8 @@ fn take_again<'a>(
     deliver(&mut node, from, frame, entry)?;
     let _ = node.take_log();
     push_all(alloc, &mut node, &mut lanes)?;
-    Ok(holdings.with_worker(Worker::new(node, lanes)))
+    let worker = Worker::new(node, lanes);
+    Ok(holdings.with_worker(worker))
 }
 
 /// Does again the event that the entry notes.

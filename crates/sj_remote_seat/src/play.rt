@@ -98,8 +98,8 @@ fn hand_in<'a, S: Source, K: Sink>(
     if !exchange(alloc, conn, file, &mut player, streams, &noted, wait)? {
         return Ok(None);
     }
-    let Player { node, lanes } = player;
-    Ok(Some(holdings.with_worker(Worker::new(node, lanes))))
+    let worker = Worker::new(player.node, player.lanes);
+    Ok(Some(holdings.with_worker(worker)))
 }
 
 /// Adds what the party noted last.

@@ -5,9 +5,19 @@ use crate::asking::Asking;
 use crate::stops::stays;
 use sj_base::NoMemory;
 use sj_lane::{InLane, OutLane};
-use sj_seat::Guest;
-use sj_seat_run::Play;
+use sj_seat::{Guest, Wish};
+use sj_seat_run::{Answer, Play};
 use sj_work::Gate;
+
+/// Does what the code asks for once.
+pub(crate) fn perform<O: OutLane, I: InLane, G: Gate>(
+    guest: &mut Guest<'_, O, I, G>,
+    wish: Wish,
+) -> Answer
+    ensures { Played O.OutLane I.InLane guest.old guest.new }
+{
+    guest.perform(wish)
+}
 
 /// Does what the code asks for, until it asks again for a call that waits, or for nothing more.
 fn ask_on<O: OutLane, I: InLane, G: Gate, C: Play>(
@@ -24,7 +34,7 @@ fn ask_on<O: OutLane, I: InLane, G: Gate, C: Play>(
         let Some(wish) = asking.asks(code, guest.guard()) else {
             return Ok(());
         };
-        let told = guest.perform(wish);
+        let told = perform(guest, wish);
         if asking.answer_once(wish, told)? {
             return Ok(());
         }
