@@ -22,3 +22,6 @@ module _ {O I G : Type 0} where
 
   pub caught_more : (file : FileAt) (words : List (List ℕ)) (a b c : Guest O I G) → CaughtUp a b → DidAgain file words b c → CaughtUp a c
   caught_more file words a b c x y = record { entries = x.entries ++ entries_of y.noted; sat = sat_then a b c x.entries (entries_of y.noted) x.sat y.sat }
+
+  pub caught_then : (a b c : Guest O I G) → CaughtUp a b → CaughtUp b c → CaughtUp a c
+  caught_then a b c x y = record { entries = x.entries ++ y.entries; sat = sat_then a b c x.entries y.entries x.sat y.sat }

@@ -44,7 +44,8 @@ fn redo_lines<'a, C: Play>(
         if line.party != going.worker().node().party() {
             return Err(SeatPlayRefusal::Party(PlayRefusal::LogFault));
         }
-        going = redo(alloc, going, asking, code, &line.entry)?;
+        let next = redo(alloc, going, asking, code, &line.entry)?;
+        going = next;
         made.push(line.entry)?;
     }
     Ok((going, made))

@@ -58,6 +58,27 @@ fn take_seat<'a>(
     Ok(seat)
 }
 
+/// Does again the entries that came at once.
+fn redo_came<'a, C: sj_seat_run::Play>(
+    alloc: Global,
+    accepted: &Accepted,
+    seat: Seat<'a>,
+    entries: &[Vec<Vec<u8>>],
+    asking: &mut Asking,
+    code: &mut C,
+) -> Result<Seat<'a>, SeatPlayRefusal>
+    requires { log_of (node_of seat) ≡ [] }
+    ensures again { IfOk result (λ new. CaughtUp seat.entry new) }
+    ensures none { IfOk result (λ new. log_of (node_of new) ≡ []) }
+{
+    let mut going = seat;
+    for words in entries {
+        let next = do_again(alloc, accepted, going, asking, code, words)?;
+        going = next;
+    }
+    Ok(going)
+}
+
 /// Does again what stands in the party's own stream, by what its code asks for.
 fn catch_up<'a, C: sj_seat_run::Play>(
     alloc: Global,
@@ -73,9 +94,8 @@ fn catch_up<'a, C: sj_seat_run::Play>(
 {
     let mut going = seat;
     for came in own {
-        for words in &came.entries {
-            going = do_again(alloc, accepted, going, asking, code, words)?;
-        }
+        let next = redo_came(alloc, accepted, going, &came.entries, asking, code)?;
+        going = next;
     }
     Ok(going)
 }

@@ -7,7 +7,7 @@ use Rattle.sj_remote_seat.specs.Turns.{Sat}
 use Rattle.sj_remote_seat.proofs.SatLemmas.{sat_still, sat_then, still_itself}
 use Rattle.sj_remote_seat.proofs.again.redo_lines.Goals as goal
 
-pub loop-line-init-clause-sat : goal.loop-line-init-clause-sat
-loop-line-init-clause-sat g c =
+pub loop-line-init : goal.loop-line-init
+loop-line-init g c =
     let a = c.args.seat in
-    subst (λ (l : List EntryAt). Sat a a l) (ap entries_of (sym c.new-made.ensures.items)) (sat_still a a (still_itself a))
+    record { sat = subst (λ (l : List EntryAt). Sat a a l) (ap entries_of (sym c.new-made.ensures.items)) (sat_still a a (still_itself a)); none = c.requires }

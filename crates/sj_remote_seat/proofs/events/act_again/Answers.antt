@@ -11,15 +11,11 @@ use Rattle.sj_remote_seat.proofs.SatLemmas.{after_entry, after_out, resembles_sa
 use Rattle.sj_remote_seat.proofs.events.act_again.Goals as goal
 
 pub with_worker-guest-requires-clause-same : goal.with_worker-guest-requires-clause-same
-with_worker-guest-requires-clause-same c =
-    let w = works.node_of c.into_parts-before.result.0 in
-    let m = c.into_parts-lanes.result.1 in
-    let v = works.node_of c.new-bare.result in
-    let like = resembles_then w m v (after_entry w m c.into_parts-lanes.ensures.node) (resembles_same m v c.new-bare.ensures.node) in
+with_worker-guest-requires-clause-same g c =
     ap nodes.table_of c.new-bare.ensures.node ∙ c.into_parts-lanes.ensures.node.table ∙ c.into_parts-before.ensures.same
 
 pub with_worker-guest-requires-clause-idle : goal.with_worker-guest-requires-clause-idle
-with_worker-guest-requires-clause-idle c =
+with_worker-guest-requires-clause-idle g c =
     let w = works.node_of c.into_parts-before.result.0 in
     let m = c.into_parts-lanes.result.1 in
     let v = works.node_of c.new-bare.result in
@@ -27,16 +23,11 @@ with_worker-guest-requires-clause-idle c =
     idle_like w v like c.into_parts-before.ensures.idle
 
 pub with_worker-requires-clause-same : goal.with_worker-requires-clause-same
-with_worker-requires-clause-same c =
-    let w = works.node_of c.into_parts-after.result.0 in
-    let m = c.into_parts-node.result.1 in
-    let n = c.push_all.new.node in
-    let v = works.node_of c.new-worker.result in
-    let like = resembles_then w m v (after_entry w m c.into_parts-node.ensures.node) (resembles_then m n v (after_out m n c.push_all.ensures) (resembles_same n v c.new-worker.ensures.node)) in
+with_worker-requires-clause-same g c =
     ap nodes.table_of c.new-worker.ensures.node ∙ c.push_all.ensures.table ∙ c.into_parts-node.ensures.node.table ∙ c.into_parts-after.ensures.same
 
 pub with_worker-requires-clause-idle : goal.with_worker-requires-clause-idle
-with_worker-requires-clause-idle c =
+with_worker-requires-clause-idle g c =
     let w = works.node_of c.into_parts-after.result.0 in
     let m = c.into_parts-node.result.1 in
     let n = c.push_all.new.node in
@@ -45,7 +36,7 @@ with_worker-requires-clause-idle c =
     idle_like w v like c.into_parts-after.ensures.idle
 
 pub returns-clause-sat : goal.returns-clause-sat
-returns-clause-sat c =
+returns-clause-sat g c =
     let a = c.args.seat in
     let b = c.with_worker-guest.result in
     let d = c.ask_for.new.guest in

@@ -7,6 +7,3 @@ use Rattle.sj_remote_seat.proofs.play.catch_up.Given as goal
 -- what the party did so far
 abbrev pub invariant-loop-came : goal.invariant-loop-came
 invariant-loop-came g l = record { again : CaughtUp l.fn.seat l.going; none : log_of (node_of l.going) ≡ [] }
-
-abbrev pub invariant-loop-words : goal.invariant-loop-words
-invariant-loop-words g l = record { again : CaughtUp l.fn.seat l.going; none : log_of (node_of l.going) ≡ [] }

@@ -10,18 +10,12 @@ use Rattle.sj_remote_seat.proofs.play.hand_in.Goals as goal
 
 pub with_worker-requires-clause-same : goal.with_worker-requires-clause-same
 with_worker-requires-clause-same g c =
-    let w = works.node_of c.into_parts-worker.result.0 in
-    let m = c.into_parts-lanes.result.1 in
-    let n = node_in c.exchange.new.player in
-    let v = works.node_of c.new-worker.result in
-    let like = resembles_then w m v (after_entry w m c.into_parts-lanes.ensures.node) (resembles_same m v (c.new-worker.ensures.node ∙ c.in_ok-exchange.ensures.node)) in
     ap nodes.table_of (c.new-worker.ensures.node ∙ c.in_ok-exchange.ensures.node) ∙ c.into_parts-lanes.ensures.node.table ∙ c.into_parts-worker.ensures.same
 
 pub with_worker-requires-clause-idle : goal.with_worker-requires-clause-idle
 with_worker-requires-clause-idle g c =
     let w = works.node_of c.into_parts-worker.result.0 in
     let m = c.into_parts-lanes.result.1 in
-    let n = node_in c.exchange.new.player in
     let v = works.node_of c.new-worker.result in
     let like = resembles_then w m v (after_entry w m c.into_parts-lanes.ensures.node) (resembles_same m v (c.new-worker.ensures.node ∙ c.in_ok-exchange.ensures.node)) in
     idle_like w v like c.into_parts-worker.ensures.idle
@@ -33,7 +27,9 @@ returns g c =
     let m = c.into_parts-lanes.result.1 in
     let n = node_in c.exchange.new.player in
     record {
-      sat = sat_still a b (put_back c.into_parts-worker.result.1 a b c.into_parts-worker.result.0 c.new-worker.result m n c.into_parts-worker.ensures.holds c.with_worker.ensures.holds
-          c.into_parts-worker.ensures.worker c.into_parts-lanes.ensures.node (resembles_same m n c.in_ok-exchange.ensures.node) c.new-worker.ensures.node c.with_worker.ensures.worker);
-      log = ap log_of (ap works.node_of c.with_worker.ensures.worker ∙ c.new-worker.ensures.node ∙ c.in_ok-exchange.ensures.node) ∙ c.into_parts-lanes.ensures.none;
+      goes = record {
+        sat = sat_still a b (put_back c.into_parts-worker.result.1 a b c.into_parts-worker.result.0 c.new-worker.result m n c.into_parts-worker.ensures.holds c.with_worker.ensures.holds
+            c.into_parts-worker.ensures.worker c.into_parts-lanes.ensures.node (resembles_same m n c.in_ok-exchange.ensures.node) c.new-worker.ensures.node c.with_worker.ensures.worker);
+        log = ap log_of (ap works.node_of c.with_worker.ensures.worker ∙ c.new-worker.ensures.node ∙ c.in_ok-exchange.ensures.node) ∙ c.into_parts-lanes.ensures.none;
+      };
     }
