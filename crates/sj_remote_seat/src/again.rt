@@ -44,9 +44,10 @@ fn redo_lines<'a, C: Play>(
         if line.party != going.worker().node().party() {
             return Err(SeatPlayRefusal::Party(PlayRefusal::LogFault));
         }
-        let next = redo(alloc, going, asking, code, &line.entry)?;
+        let entry = line.entry;
+        let next = redo(alloc, going, asking, code, &entry)?;
         going = next;
-        made.push(line.entry)?;
+        made.push(entry)?;
     }
     Ok((going, made))
 }
