@@ -1,17 +1,15 @@
 -- Entries of the party's stream, done again one after another.
-use Rattle.std.proofs.Common.{◌≡◌, ◌∙◌, ℕ, List, [], ◌∷◌, ◌++◌, refl, ap, subst, sym}
+use Rattle.std.proofs.Common.{◌≡◌, ◌∙◌, ℕ, List, [], ◌∷◌, ◌++◌, ap, subst, sym}
 use Rattle.std.proofs.lemmas.List.{map-append}
 use Rattle.sj_end.specs.Lines.{entry_at}
 use Rattle.sj_end.specs.declared.note.Entry.{Entry}
 use Rattle.sj_lang.specs.FileAt.{FileAt}
-use Rattle.sj_node.specs.Node.{node_at, wants_of}
+use Rattle.sj_node.specs.Node.{wants_of}
 use Rattle.sj_node.specs.Play.{next_want}
-use Rattle.sj_node.specs.Reading.{TakesEntry, TakesOut, table_of}
 use Rattle.sj_node.specs.declared.node.Node.{Node}
 use Rattle.sj_rules.specs.Log.{EntryAt}
 use Rattle.sj_seat.specs.declared.guest.Guest.{Guest}
 use Rattle.sj_semantics.specs.declared.Want.TheVariants as wants
-use Rattle.sj_table.specs.declared.table.Table.{Table}
 use Rattle.sj_work.specs.Laned.{entries_of}
 use Rattle.sj_remote_seat.specs.Turns.{CaughtUp, DidAgain, Sat}
 use Rattle.sj_remote_seat.proofs.SatLemmas.{Resembles, sat_still, sat_then, still_itself}

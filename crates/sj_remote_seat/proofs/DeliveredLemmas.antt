@@ -1,5 +1,5 @@
 -- A frame that comes to a party that code plays.
-use Rattle.std.proofs.Common.{◌≡◌, ◌∙◌, ℕ, max, List, [], ◌∷◌, ◌++◌, length, Option, Some, option_map, refl, sym, ap}
+use Rattle.std.proofs.Common.{◌≡◌, ◌∙◌, ℕ, max, List, [], ◌∷◌, ◌++◌, length, Some, option_map, refl, sym, ap}
 use Rattle.sj_end.specs.Lines.{entry_at}
 use Rattle.sj_end.specs.declared.note.Entry.{Entry}
 use Rattle.sj_lang.specs.FileAt.{FileAt}
@@ -9,9 +9,8 @@ use Rattle.sj_node.specs.Play.{next_want}
 use Rattle.sj_node.specs.Reading.{parties_of, party_of, table_of}
 use Rattle.sj_node.specs.declared.node.Node.{Node}
 use Rattle.sj_rules.specs.Frames.{FrameAt}
-use Rattle.sj_rules.specs.Log.{EntryAt}
 use Rattle.sj_rules.specs.Node.{NodeAt, Play, arrives}
-use Rattle.sj_rules.specs.NodeRun.{Came, Deed, StepAt, Steps, clock_after, deed_done, deed_note}
+use Rattle.sj_rules.specs.NodeRun.{Came, StepAt, Steps, clock_after, deed_done, deed_note}
 use Rattle.sj_rules.specs.Rows.{Worked}
 use Rattle.sj_seat.specs.Views.{node_of, seat_of}
 use Rattle.sj_seat.specs.declared.guest.Guest.{Guest}
@@ -21,7 +20,7 @@ use Rattle.sj_seat_laws.specs.SeatRows.{with_player, worked_player}
 use Rattle.sj_seat_laws.specs.SeatedPlay.{seated, seated_play}
 use Rattle.sj_semantics.specs.declared.Want.TheVariants as wants
 use Rattle.sj_table.specs.declared.table.Spot.{Spot}
-use Rattle.sj_work.proofs.NodeLemmas.{Stepped, came_stepped}
+use Rattle.sj_work.proofs.NodeLemmas.{came_stepped}
 use Rattle.sj_work.specs.Laned.{entries_of}
 use Rattle.sj_remote_seat.specs.Turns.{IsDelivered, Ran, Sat}
 use Rattle.sj_remote_seat.proofs.SatLemmas.{Resembles, ran_none, ran_then}

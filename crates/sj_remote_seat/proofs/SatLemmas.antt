@@ -1,5 +1,5 @@
 -- What a party that code plays does, one piece after another.
-use Rattle.std.proofs.Common.{◌≡◌, ◌∙◌, ℕ, max, List, [], ◌++◌, map, length, refl, sym, ap, subst, append_assoc, append-nil}
+use Rattle.std.proofs.Common.{◌≡◌, ◌∙◌, ℕ, max, List, [], ◌++◌, map, refl, sym, ap, subst, append_assoc, append-nil}
 use Rattle.std.proofs.lemmas.List.{map-append}
 use Rattle.sj_joined_lemmas.proofs.WorkerLemmas.{runs_joined}
 use Rattle.sj_lane.specs.declared.lane.InLane.{Ghosts as InLane}
@@ -22,7 +22,7 @@ use Rattle.sj_seat_laws.specs.SeatRows.{with_player}
 use Rattle.sj_seat_laws.specs.SeatedPlay.{seated, seated_play}
 use Rattle.sj_seat_run.specs.Played.{Played}
 use Rattle.sj_work.specs.Laned.{entries_of}
-use Rattle.sj_remote_seat.specs.Turns.{Noted, Ran, Sat, Turns}
+use Rattle.sj_remote_seat.specs.Turns.{Ran, Sat, Turns}
 
 -- nothing is done
 pub ran_none : (file : FileAt) (s t : SeatedAt) (a b : Node) → t ≡ s → node_at b ≡ node_at a → Ran file s t a b []

@@ -180,7 +180,14 @@ pub fn play_seat<S: Source + Drop, K: Sink + Drop, C: sj_seat_run::Play>(
     let mut streams = Streams::new(alloc, how.run, parties)?;
     let mut lanes = new_lanes(alloc, parties)?;
     let mut own = Vec::new(alloc);
-    read_all(alloc, conn, &mut streams, &mut lanes.ins, how.party, &mut own)?;
+    read_all(
+        alloc,
+        conn,
+        &mut streams,
+        &mut lanes.ins,
+        how.party,
+        &mut own,
+    )?;
     let gate = NoGate;
     let mut asking = Asking::new(alloc);
     let seat = take_seat(alloc, accepted, how.party, lanes, &gate)?;

@@ -1,4 +1,4 @@
-use Rattle.std.proofs.Common.{◌≡◌, ◌∙◌, ap, map, rules, sym}
+use Rattle.std.proofs.Common.{◌∙◌, ap, map, rules}
 use Rattle.sj_engine.specs.Lanes.{pushed_on}
 use Rattle.sj_node.specs.Reading as nodes
 use Rattle.sj_work.specs.Laned.{entries_of}
@@ -28,7 +28,7 @@ returns-clause-again g c =
     let m = c.into_parts-lanes.result.1 in
     let noted = c.in_ok-seat.made.items in
     let last = put_back c.into_parts-worker.result.1 s b c.into_parts-worker.result.0 c.new-worker.result m m c.into_parts-worker.ensures.holds c.with_worker.ensures.holds
-        c.into_parts-worker.ensures.worker c.into_parts-lanes.ensures.node (resembles_same m m (λ i. m)) c.new-worker.ensures.node c.with_worker.ensures.worker in
+    c.into_parts-worker.ensures.worker c.into_parts-lanes.ensures.node (resembles_same m m (λ i. m)) c.new-worker.ensures.node c.with_worker.ensures.worker in
     record {
       noted = noted;
       sat = sat_between a a s b (entries_of noted) (still_itself a) c.in_ok-seat.ensures.sat last;

@@ -46,8 +46,8 @@ returns-clause-sat g c =
     let o = c.into_parts-node.result.1 in
     let none : log_of (node_of b) ≡ [] = ap log_of (ap works.node_of c.with_worker-guest.ensures.worker ∙ c.new-bare.ensures.node) ∙ c.into_parts-lanes.ensures.none in
     let first = put_back c.into_parts-before.result.1 a b c.into_parts-before.result.0 c.new-bare.result m m c.into_parts-before.ensures.holds c.with_worker-guest.ensures.holds
-        c.into_parts-before.ensures.worker c.into_parts-lanes.ensures.node (resembles_same m m (λ i. m)) c.new-bare.ensures.node c.with_worker-guest.ensures.worker in
+    c.into_parts-before.ensures.worker c.into_parts-lanes.ensures.node (resembles_same m m (λ i. m)) c.new-bare.ensures.node c.with_worker-guest.ensures.worker in
     let asked = sat_turns b d (entry_at e ∷ []) none (ap entries_of c.in_ok-ask_for.ensures.only) (turns_played _ _ b d c.in_ok-ask_for.ensures.played) in
     let last = put_back c.into_parts-after.result.1 d z c.into_parts-after.result.0 c.new-worker.result o c.push_all.new.node c.into_parts-after.ensures.holds c.with_worker.ensures.holds
-        c.into_parts-after.ensures.worker c.into_parts-node.ensures.node (after_out o c.push_all.new.node c.push_all.ensures) c.new-worker.ensures.node c.with_worker.ensures.worker in
+    c.into_parts-after.ensures.worker c.into_parts-node.ensures.node (after_out o c.push_all.new.node c.push_all.ensures) c.new-worker.ensures.node c.with_worker.ensures.worker in
     sat_between a b d z (entry_at e ∷ []) first asked last

@@ -1,9 +1,7 @@
-use Rattle.std.proofs.Common.{◌≡◌, ◌∙◌, ap}
-use Rattle.sj_node.specs.Node.{wants_of}
+use Rattle.std.proofs.Common.{◌∙◌, ap}
 use Rattle.sj_end.specs.Views.{frame_at}
 use Rattle.sj_node.specs.Reading as nodes
 use Rattle.sj_seat.specs.Views.{node_of}
-use Rattle.sj_semantics.specs.declared.Want.TheVariants as wants
 use Rattle.sj_work.specs.Views as works
 use Rattle.sj_remote_seat.proofs.CaughtLemmas.{idle_like}
 use Rattle.sj_remote_seat.proofs.DeliveredLemmas.{idle_delivered, sat_delivered, table_delivered}
@@ -16,7 +14,7 @@ with_worker-requires-clause-same c =
     let n = c.deliver.new.node in
     let d = c.in_ok-deliver.ensures.delivered in
     ap nodes.table_of c.new-worker.ensures.node ∙ c.push_all.ensures.table ∙ c.take_log.ensures.rest.table ∙ table_delivered m n c.args.from (frame_at c.in_ok-frame.frame) d
-          ∙ c.into_parts-lanes.ensures.node.table ∙ c.into_parts-worker.ensures.same
+    ∙ c.into_parts-lanes.ensures.node.table ∙ c.into_parts-worker.ensures.same
 
 pub with_worker-requires-clause-idle : goal.with_worker-requires-clause-idle
 with_worker-requires-clause-idle c =

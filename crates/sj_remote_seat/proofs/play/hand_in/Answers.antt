@@ -1,4 +1,4 @@
-use Rattle.std.proofs.Common.{◌≡◌, ◌∙◌, ap}
+use Rattle.std.proofs.Common.{◌∙◌, ap}
 use Rattle.sj_node.specs.Node.{log_of}
 use Rattle.sj_node.specs.Reading as nodes
 use Rattle.sj_remote_run.specs.Turns.{node_in}
