@@ -1,0 +1,5 @@
+mod ApartLemmas
+mod CaughtLemmas
+mod DeliveredLemmas
+mod PlayedLemmas
+mod SatLemmas

@@ -1,0 +1,17 @@
+//! A party of a file that a builder's own code plays over a stream server.
+#![tactic(auto)]
+
+mod acts;
+mod again;
+mod asking;
+mod batch;
+mod events;
+mod home;
+mod play;
+mod refusal;
+mod seat;
+mod stops;
+mod turns;
+
+pub use play::play_seat;
+pub use refusal::SeatPlayRefusal;
