@@ -6,15 +6,14 @@ use sj_seat::SeatRefusal;
 use sj_seat_texts::Texts;
 use sj_text::{put, put_number};
 use sj_work::Stop;
-use std::sync::Wait;
 
-/// What is answered to a line.
-#[derive(Clone, Copy, Debug, PartialEq, Eq)]
-pub enum Answer {
+/// What is answered to a line; ends by their names.
+#[derive(Clone, Copy, Drop)]
+pub enum Answer<'a> {
     /// It is done.
     Fine,
-    /// It is done, and took this message.
-    Took(Msg),
+    /// It is done, and took this message from that end. An end that came has the last name.
+    Took(&'a [u8], Msg, &'a [u8]),
     /// It isn't done, by the rule of that number, from 1 on.
     Refused(u8),
     /// It isn't done yet: nothing came that it needs.
@@ -25,18 +24,17 @@ pub enum Answer {
 }
 
 /// The rules in words, by their numbers.
-const RULES: [&[u8]; 7] = [
+const RULES: [&[u8]; 6] = [
     b"it has none of the forms of a line",
     b"an end isn't held",
     b"the place of the end begins otherwise",
     b"the end can't be sent there, or the name is in use",
     b"what is sent is of another kind",
     b"at a limit",
-    b"nothing is there to take",
 ];
 
-/// What a refusal of a seat is to a line.
-fn refused(refusal: SeatRefusal) -> Answer {
+/// What a line is answered whose call was refused so.
+pub(crate) fn refused(refusal: SeatRefusal) -> Answer<'static> {
     match refusal {
         SeatRefusal::NotHeld => Answer::Refused(2),
         SeatRefusal::BeginsOtherwise => Answer::Refused(3),
@@ -49,30 +47,17 @@ fn refused(refusal: SeatRefusal) -> Answer {
     }
 }
 
-/// What is answered to a line whose call was answered so.
-pub(crate) fn answered(answer: Result<Option<Msg>, SeatRefusal>) -> Answer {
-    match answer {
-        Ok(Some(msg)) => Answer::Took(msg),
-        Ok(None) => Answer::Fine,
-        Err(refusal) => refused(refusal),
-    }
-}
-
-/// Appends the line that answers the line of that number.
-pub fn put_answer<W: Wait>(
-    rt: &W,
+/// Puts the answer to the line of that number after the text, with its newline.
+pub fn put_answer(
     text: &mut Vec<u8>,
     file: &File,
-    texts: &Texts<'_>,
+    texts: &Texts,
     number: u64,
-    answer: Answer,
+    answer: Answer<'_>,
 ) -> Result<(), NoMemory> {
     match answer {
         Answer::Fine => put(text, b"fine")?,
-        Answer::Took(msg) => {
-            put(text, b"took ")?;
-            put_taken(rt, text, file, texts, msg)?;
-        }
+        Answer::Took(end, msg, name) => put_took(text, file, texts, end, msg, name)?,
         Answer::Refused(rule) => put_refused(text, number, rule)?,
         Answer::Waiting => put(text, b"waiting")?,
         Answer::Stopped(stop) => {
@@ -84,22 +69,35 @@ pub fn put_answer<W: Wait>(
     put(text, b"\n")
 }
 
-// A message, also of a text that the file hasn't.
-fn put_taken<W: Wait>(
-    rt: &W,
+fn put_took(
     text: &mut Vec<u8>,
     file: &File,
-    texts: &Texts<'_>,
+    texts: &Texts,
+    end: &[u8],
     msg: Msg,
+    name: &[u8],
 ) -> Result<(), NoMemory> {
-    match msg {
-        Msg::Text(n) if file.names.texts.get(n as usize).is_none() => {
-            put(text, b"String \"")?;
-            let _ = texts.put(rt, n, text)?;
-            put(text, b"\"")
-        }
-        _ => print_message(text, file, &msg),
+    put(text, b"took ")?;
+    put(text, end)?;
+    put(text, b" ")?;
+    put_message(text, file, texts, msg)?;
+    if name.is_empty() {
+        return Ok(());
     }
+    put(text, b" ")?;
+    put(text, name)
+}
+
+// A message, also of a text that the file hasn't.
+fn put_message(text: &mut Vec<u8>, file: &File, texts: &Texts, msg: Msg) -> Result<(), NoMemory> {
+    if let Msg::Text(n) = msg {
+        if let Some(bytes) = texts.get(n) {
+            put(text, b"String \"")?;
+            put(text, bytes)?;
+            return put(text, b"\"");
+        }
+    }
+    print_message(text, file, &msg)
 }
 
 fn put_refused(text: &mut Vec<u8>, number: u64, rule: u8) -> Result<(), NoMemory> {
@@ -109,7 +107,7 @@ fn put_refused(text: &mut Vec<u8>, number: u64, rule: u8) -> Result<(), NoMemory
     put_number(text, u64::from(rule))?;
     match RULES.get((rule as usize).saturating_sub(1)) {
         Some(words) => {
-            put(text, b": ")?;
+            put(text, b" ")?;
             put(text, words)
         }
         None => Ok(()),

@@ -3,12 +3,17 @@
 
 mod answers;
 mod asks;
-mod deeds;
+mod fronts;
 mod lines;
 mod names;
+mod party;
 mod reader;
+mod steps;
 
 pub use answers::{Answer, put_answer};
-pub use lines::{Ended, Lines};
+pub use asks::{Ask, ask_in};
+pub use lines::{Ended, Left, Lines};
 pub use names::{Name, first_names};
+pub use party::{Heard, Party};
 pub use reader::{LineReader, Next};
+pub use steps::{Step, step_of};

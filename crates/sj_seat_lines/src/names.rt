@@ -37,7 +37,12 @@ pub(crate) fn forget(names: &mut Vec<Name>, end: EndId) {
 }
 
 /// Puts an end behind the others, under its name.
-pub(crate) fn bind(alloc: Global, names: &mut Vec<Name>, name: &[u8], end: EndId) -> Result<(), NoMemory> {
+pub(crate) fn bind(
+    alloc: Global,
+    names: &mut Vec<Name>,
+    name: &[u8],
+    end: EndId,
+) -> Result<(), NoMemory> {
     let name = Vec::from_slice(alloc, name)?;
     names.push(Name { name, end })?;
     Ok(())
@@ -48,8 +53,22 @@ pub fn first_names(alloc: Global, file: &File, party: u16) -> Result<Vec<Name>, 
     let mut names = Vec::new(alloc);
     let mut sess: u32 = 0;
     for connect in &file.connects {
-        put_own(alloc, &mut names, file, party, connect.first, EndId { sess, side: 0 })?;
-        put_own(alloc, &mut names, file, party, connect.second, EndId { sess, side: 1 })?;
+        put_own(
+            alloc,
+            &mut names,
+            file,
+            party,
+            connect.first,
+            EndId { sess, side: 0 },
+        )?;
+        put_own(
+            alloc,
+            &mut names,
+            file,
+            party,
+            connect.second,
+            EndId { sess, side: 1 },
+        )?;
         sess = sess.saturating_add(1);
     }
     Ok(names)

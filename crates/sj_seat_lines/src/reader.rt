@@ -2,9 +2,6 @@
 use sj_base::{NoMemory, Source};
 use std::alloc::Global;
 
-/// The most bytes of a line. What comes behind them of the same line is dropped.
-const MOST_BYTES: usize = 4096;
-
 /// Lines of a source, one after another, each as soon as it is there whole.
 #[derive(Drop)]
 pub struct LineReader<S> {
@@ -18,27 +15,43 @@ pub struct LineReader<S> {
 #[derive(Drop)]
 pub enum Next {
     Line(Vec<u8>),
-    /// The source has ended, or failed.
+    /// The source has ended.
     End,
+    /// A read failed.
+    Failed,
+}
+
+/// What a read brings.
+#[derive(Clone, Copy, PartialEq, Eq)]
+enum Came {
+    Bytes,
+    Nothing,
+    Failed,
 }
 
 impl<S: Source> LineReader<S> {
-    /// The lines of the source, behind these bytes, which came before.
-    pub fn new(alloc: Global, src: S, came: Vec<u8>) -> LineReader<S> {
+    /// The lines of the source.
+    pub fn new(alloc: Global, src: S) -> LineReader<S> {
         LineReader {
             alloc,
             src,
-            came,
+            came: Vec::new(alloc),
             at: 0,
         }
     }
 
-    /// The next line, without its newline. A last line may stand without one.
-    pub fn next(&mut self) -> Result<Next, NoMemory> {
+    /// The next line, without its newline, and without what it has beyond so many bytes. A last line
+    /// may stand without its newline.
+    pub fn next(&mut self, most: usize) -> Result<Next, NoMemory> {
         let mut line = Vec::new(self.alloc);
         for _ in 0..usize::MAX {
-            if self.at >= self.came.len() && !self.refill()? {
-                return Ok(if line.is_empty() { Next::End } else { Next::Line(line) });
+            if self.at >= self.came.len() {
+                match self.refill()? {
+                    Came::Bytes => {}
+                    Came::Failed => return Ok(Next::Failed),
+                    Came::Nothing if line.is_empty() => return Ok(Next::End),
+                    Came::Nothing => return Ok(Next::Line(line)),
+                }
             }
             if self.at < self.came.len() {
                 let byte = self.came[self.at];
@@ -46,7 +59,7 @@ impl<S: Source> LineReader<S> {
                 if byte == b'\n' {
                     return Ok(Next::Line(line));
                 }
-                if line.len() < MOST_BYTES {
+                if line.len() < most {
                     line.push(byte)?;
                 }
             }
@@ -54,18 +67,19 @@ impl<S: Source> LineReader<S> {
         Err(NoMemory)
     }
 
-    // Reads what is there. Answers whether anything came.
-    fn refill(&mut self) -> Result<bool, NoMemory> {
+    // Reads what is there.
+    fn refill(&mut self) -> Result<Came, NoMemory> {
         let mut buf = [0u8; 4096];
         match self.src.read(&mut buf) {
-            Ok(n) if n > 0 => {
+            Ok(0) => Ok(Came::Nothing),
+            Ok(n) if n <= buf.len() => {
                 let mut came = Vec::new(self.alloc);
                 came.extend_from_slice(&buf[..n])?;
                 self.came = came;
                 self.at = 0;
-                Ok(true)
+                Ok(Came::Bytes)
             }
-            _ => Ok(false),
+            _ => Ok(Came::Failed),
         }
     }
 }

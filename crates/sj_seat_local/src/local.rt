@@ -1,15 +1,18 @@
 //! From a call to the transcript.
-use crate::files::{accepted, file_before, file_of, party_of};
-use sj_base::{MemSource, NoMemory, Sink, Source, write_all_of};
+use crate::code::ByLines;
+use crate::files::{Before, accepted, file_before};
+use crate::output::{NO_MEMORY, WRITE_FAULT, checked, said, transcript};
+use crate::words::{number_of, party_in};
+use sj_base::{NoMemory, Sink, Source};
 use sj_check::Accepted;
 use sj_lane::RingLinks;
-use sj_seat_lines::{Ended, LineReader, Lines, first_names};
-use sj_seat_run::{SeatedRefusal, run_seated};
+use sj_lang::File;
+use sj_seat_lines::{Ended, Left, LineReader, Lines, Party, first_names};
+use sj_seat_run::{SeatedRefusal, SeatedRun, run_seated};
 use sj_seat_texts::Texts;
-use sj_tool::sj;
+use sj_text::put;
 use sj_work::NoGate;
 use std::alloc::Global;
-use std::sync::Wait;
 use std::thread::Threads;
 
 /// The looks of a party with nothing to do, and of a call that waits.
@@ -18,12 +21,15 @@ pub const LOOKS: u32 = 1_000;
 /// How often a call that waits is tried again.
 const PATIENCE: u32 = 1_000;
 
-const USAGE: &[u8] = b"usage: sjseat PARTY\n";
+const USAGE: &[u8] = b"usage: sjseat --local PARTY\n";
 
-/// Plays the party by the lines behind the file and a line `%%talk`, the others on threads beside
-/// it. Each line is answered by a line as it is done or refused; the transcript is last. Answers the
+/// The lines of the party, as code.
+type Code<'a, S, K> = ByLines<'a, S, K>;
+
+/// Plays the party by the lines after the file and a line `%%talk`, the others on threads beside it.
+/// Each line is answered by a line as it is done or refused; the transcript comes last. Answers the
 /// status.
-pub fn seat_local<R: Threads + Wait + Sync, S: Source + Send + Drop, K: Sink + Send + Drop>(
+pub fn seat_local<R: Threads + Sync, S: Source + Send + Drop, K: Sink + Send + Drop>(
     rt: &R,
     alloc: Global,
     words: &[String],
@@ -31,27 +37,21 @@ pub fn seat_local<R: Threads + Wait + Sync, S: Source + Send + Drop, K: Sink + S
     out: K,
 ) -> u8 {
     let mut out = out;
-    let [word] = words else {
+    let Some(word) = party_in(words) else {
         return said(&mut out, USAGE, 1);
     };
-    let mut lines = LineReader::new(alloc, src, Vec::new(alloc));
+    let mut lines = LineReader::new(alloc, src);
     match file_before(alloc, &mut lines) {
-        Ok(Some(bytes)) => seat_file(rt, alloc, word.as_bytes(), bytes, lines, out),
-        Ok(None) => said(&mut out, b"talk L1 at 0\n", 12),
-        Err(NoMemory) => 11,
-    }
-}
-
-// Writes the text, and answers the status.
-fn said<K: Sink>(out: &mut K, text: &[u8], status: u8) -> u8 {
-    match write_all_of(out, text) {
-        Ok(()) => status,
-        Err(_) => 10,
+        Ok(Before::File(bytes)) => seat_file(rt, alloc, word, bytes, lines, out),
+        Ok(Before::ReadFault) => said(&mut out, b"read fault\n", 2),
+        Ok(Before::TooLarge) => said(&mut out, b"too large\n", 3),
+        Ok(Before::NoTalk) => said(&mut out, b"talk L1 at 0\n", 12),
+        Err(NoMemory) => NO_MEMORY,
     }
 }
 
 // Plays the party of the file that these bytes are, where it is accepted. Else `sj check` says why.
-fn seat_file<R: Threads + Wait + Sync, S: Source + Send + Drop, K: Sink + Send + Drop>(
+fn seat_file<R: Threads + Sync, S: Source + Send + Drop, K: Sink + Send + Drop>(
     rt: &R,
     alloc: Global,
     word: &[u8],
@@ -60,55 +60,98 @@ fn seat_file<R: Threads + Wait + Sync, S: Source + Send + Drop, K: Sink + Send +
     out: K,
 ) -> u8 {
     let mut out = out;
-    let Some(accepted) = accepted(alloc, bytes.as_slice()) else {
+    let Some(accepted) = accepted(alloc, &bytes) else {
         return checked(rt, alloc, bytes, &mut out);
     };
-    match party_of(accepted.file(), word) {
-        Some(party) => seat(rt, alloc, &accepted, party, bytes, lines, out),
-        None => said(&mut out, b"no such party\n", 14),
+    let Some(party) = number_of(accepted.file(), word) else {
+        return said_no_party(alloc, word, &mut out);
+    };
+    match codes_for(alloc, accepted.file(), party, lines, out) {
+        Ok(codes) => seat(rt, alloc, &accepted, party, &bytes, codes),
+        Err(NoMemory) => NO_MEMORY,
     }
 }
 
-// What `sj check` says of the file.
-fn checked<R: Threads + Sync, K: Sink>(rt: &R, alloc: Global, bytes: Vec<u8>, out: &mut K) -> u8 {
-    let mut words = Vec::new(alloc);
-    let mut word = String::new(alloc);
-    if word.push_str("check").is_err() || words.push(word).is_err() {
-        return 11;
+fn said_no_party<K: Sink>(alloc: Global, word: &[u8], out: &mut K) -> u8 {
+    match no_party_text(alloc, word) {
+        Ok(text) => said(out, &text, 14),
+        Err(NoMemory) => NO_MEMORY,
     }
-    let mut src = MemSource::new(bytes, Vec::new(alloc));
-    sj(rt, alloc, &words, &mut src, out, &mut RingLinks::new(), &NoGate)
+}
+
+fn no_party_text(alloc: Global, word: &[u8]) -> Result<Vec<u8>, NoMemory> {
+    let mut text = Vec::new(alloc);
+    put(&mut text, b"no party ")?;
+    put(&mut text, word)?;
+    put(&mut text, b"\n")?;
+    Ok(text)
+}
+
+// The lines as the code of that party, and none before.
+fn codes_for<'a, S: Source + Drop, K: Sink + Drop>(
+    alloc: Global,
+    file: &'a File,
+    party: u16,
+    lines: LineReader<S>,
+    out: K,
+) -> Result<Vec<Option<Code<'a, S, K>>>, NoMemory> {
+    let texts = Texts::of(alloc, &file.names.texts)?;
+    let names = first_names(alloc, file, party)?;
+    let own = Party::new(alloc, file, texts, names, PATIENCE);
+    let mut codes = Vec::new(alloc);
+    for _ in 0..party {
+        codes.push(None)?;
+    }
+    let lines = Lines::new(alloc, own, lines, out);
+    codes.push(Some(ByLines { lines }))?;
+    Ok(codes)
 }
 
 // Plays the party, and writes how all ended.
-fn seat<R: Threads + Wait + Sync, S: Source + Send + Drop, K: Sink + Send + Drop>(
+fn seat<R: Threads + Sync, S: Source + Send + Drop, K: Sink + Send + Drop>(
     rt: &R,
     alloc: Global,
     accepted: &Accepted,
     party: u16,
-    bytes: Vec<u8>,
-    lines: LineReader<S>,
-    out: K,
+    bytes: &[u8],
+    codes: Vec<Option<Code<'_, S, K>>>,
 ) -> u8 {
-    let file = accepted.file();
-    let texts = Texts::of(alloc, &file.names.texts);
-    let Ok(names) = first_names(alloc, file, party) else {
-        return 11;
-    };
-    let code = Lines::new(rt, alloc, file, &texts, PATIENCE, names, lines, out);
-    let mut codes = Vec::new(alloc);
-    for _ in 0..party {
-        if codes.push(None).is_err() {
-            return 11;
-        }
-    }
-    if codes.push(Some(code)).is_err() {
-        return 11;
-    }
-    match run_seated(rt, alloc, accepted, codes, LOOKS, &mut RingLinks::new(), &NoGate) {
-        Ok(run) => 0,
+    match run_seated(
+        rt,
+        alloc,
+        accepted,
+        codes,
+        LOOKS,
+        &mut RingLinks::new(),
+        &NoGate,
+    ) {
+        Ok(run) => ended(alloc, bytes, party, run),
         Err(SeatedRefusal::LinkFault) => 8,
-        Err(SeatedRefusal::NoMemory) => 11,
+        Err(SeatedRefusal::NoMemory) => NO_MEMORY,
         Err(_) => 9,
+    }
+}
+
+// Writes how the run ended.
+fn ended<S: Source + Drop, K: Sink + Drop>(
+    alloc: Global,
+    bytes: &[u8],
+    party: u16,
+    run: SeatedRun<Code<'_, S, K>>,
+) -> u8 {
+    let mut run = run;
+    if run.world.drain().is_err() || run.codes.len() <= party as usize {
+        return NO_MEMORY;
+    }
+    let Some(code) = run.codes.swap_remove(party as usize) else {
+        return NO_MEMORY;
+    };
+    let Left { ended, texts, sink } = code.lines.into_left();
+    let mut out = sink;
+    match ended {
+        Some(Ended::Unread) => 2,
+        Some(Ended::Unwritten) => WRITE_FAULT,
+        Some(Ended::NoMemory) => NO_MEMORY,
+        _ => transcript(alloc, bytes, &texts, &run.world, &mut out),
     }
 }

@@ -1,7 +1,9 @@
-//! Texts of a run in which parties are played by code of their own: those of the file, and those
-//! that such a code adds while the run goes on.
+//! The texts of a run in which code plays parties: those of the file, and those that code adds.
 #![tactic(auto)]
 
 mod texts;
 
 pub use texts::Texts;
+
+#[cfg(test)]
+mod tests;

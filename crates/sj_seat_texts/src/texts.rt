@@ -1,93 +1,97 @@
 //! The texts of a run, each under its number.
-ghost use Rattle.std.specs.Prelude.{◌≡◌};
+ghost use Rattle.std.specs.Prelude.{◌≡◌, ◌∷◌, ◌++◌, IfOk, List, OnErr, OnOk, length, nat_lt, slice_get, if◌then◌else◌, ℕ};
+ghost use Rattle.std.specs.Option.{option_copied};
+ghost use Rattle.sj_lang.specs.Words.{IsFirstIndex};
+ghost use Rattle.sj_seat_texts.specs.Once.{IsEachOnce};
 
 use sj_base::NoMemory;
 use sj_lang::Words;
 use std::alloc::Global;
-use std::sync::{Mutex, Wait};
+use std::marker::Model;
 
-/// The texts of a run: those of its file, under their numbers there, and behind them those that
-/// codes add, in the order in which they come. Each stands once, so texts that are spelled alike
-/// have one number, whoever sends them. Only who adds a text, or asks for one that was added, waits
-/// for the lock. The lanes between parties carry numbers alone, and have no part in it.
+/// How many texts a message can name.
+const MOST_TEXTS: usize = 1 << 32;
+
+/// The texts of a run: those of its file under their numbers there, and after them those that codes
+/// add, in the order in which they come. Each stands once, so texts that are spelled alike have one
+/// number. Contracts see them as their list.
 #[derive(Drop)]
-pub struct Texts<'a> {
-    file: &'a Words,
+pub struct Texts {
+    all: Words,
     count: usize,
-    added: Mutex<Words>,
 }
 
-/// How many words there are.
-pub fn count_of(words: &Words) -> usize {
-    for n in 0..usize::MAX {
-        if words.get(n).is_none() {
-            return n;
-        }
-    }
-    usize::MAX
+impl Model for Texts {
+    ghost use Rattle.std.specs.Prelude.{ℕ, List, ◌≡◌, ◌≤◌, ◌^◌, length};
+    ghost use Rattle.sj_seat_texts.specs.Once.{IsEachOnce, IsCounted};
+
+    ghost Value = { List (List ℕ) };
+
+    ghost view = { λ t. t.all };
+
+    ghost invariant = { λ t. IsCounted t.all t.count };
 }
 
-impl<'a> Texts<'a> {
-    /// The texts of the file, and none beside them.
-    pub fn of(alloc: Global, file: &'a Words) -> Texts<'a> {
-        Texts {
-            file,
-            count: count_of(file),
-            added: Mutex::new(Words::new(alloc)),
-        }
-    }
-
-    /// The number of the text, which is added where it isn't there yet. A text that is one too many
-    /// for the numbers of texts counts as out of memory.
-    pub fn number<W: Wait>(&self, rt: &W, text: &[u8]) -> Result<u32, NoMemory> {
-        if let Some(n) = self.file.find(text) {
-            return number_at(n, 0);
-        }
-        let mut added = self.added.lock(rt);
-        let n = added.add(text)?;
-        number_at(self.count, n)
-    }
-
-    /// Appends the text of that number. Answers whether there is one.
-    pub fn put<W: Wait>(&self, rt: &W, number: u32, out: &mut Vec<u8>) -> Result<bool, NoMemory> {
-        let number = number as usize;
-        if let Some(text) = self.file.get(number) {
-            out.extend_from_slice(text)?;
-            return Ok(true);
-        }
-        if number < self.count {
-            return Ok(false);
-        }
-        let added = self.added.lock(rt);
-        match added.get(number - self.count) {
-            Some(text) => {
-                out.extend_from_slice(text)?;
-                Ok(true)
-            }
-            None => Ok(false),
-        }
-    }
-
-    /// Puts what was added behind the texts of another table, which has those of the file. So a
-    /// file of the same text, read once more, has all texts of the run under their numbers.
-    pub fn add_to<W: Wait>(&self, rt: &W, texts: &mut Words) -> Result<(), NoMemory> {
-        let added = self.added.lock(rt);
-        for n in 0..usize::MAX {
-            let Some(text) = added.get(n) else {
-                return Ok(());
+impl Texts {
+    /// The texts of the file, and none beside them. The table of a file that was read has each text
+    /// once; of another table each text stands where it comes first.
+    pub fn of(alloc: Global, file: &Words) -> Result<Texts, NoMemory>
+        ensures file { IfOk result (λ t. IsEachOnce file.now → t ≡ file.now) }
+    {
+        let mut texts = Texts {
+            all: Words::new(alloc),
+            count: 0,
+        };
+        for n in 0..MOST_TEXTS {
+            let Some(text) = file.get(n) else {
+                return Ok(texts);
             };
-            texts.add(text)?;
+            let _ = texts.number(text)?;
+        }
+        // So many texts want more memory than there is.
+        Err(NoMemory)
+    }
+
+    /// The text of that number.
+    pub fn get(&self, number: u32) -> Option<&[u8]>
+        ensures { option_copied result ≡ slice_get self.now number }
+    {
+        self.all.get(number as usize)
+    }
+
+    /// The number of the text, which is put after the others where it isn't there yet. A text that is
+    /// one too many for the numbers of texts counts as out of memory.
+    pub fn number(&mut self, text: &[u8]) -> Result<u32, NoMemory>
+        // It stands for the text, wherever it was asked for before.
+        ensures number { IfOk result (IsFirstIndex text.now self.new) }
+
+        // Those before keep their numbers.
+        ensures kept { IfOk result (λ n. self.new
+            ≡ (if nat_lt n (length self.old) then self.old else self.old ++ text.now ∷ [])) }
+        ensures err { OnErr result (self.new ≡ self.old) }
+    {
+        if let Some(n) = self.all.find(text) {
+            return Ok(n as u32);
+        }
+        if self.count >= MOST_TEXTS {
+            return Err(NoMemory);
+        }
+        let n = self.all.add(text)?;
+        self.count += 1;
+        Ok(n as u32)
+    }
+
+    /// Puts the texts after those of a table that has the first of them, as that of the file has. So
+    /// each number stands for its text there, too.
+    pub fn add_to(&self, table: &mut Words) -> Result<(), NoMemory>
+        ensures { OnOk result ((more : List (List ℕ)) →
+            self.now ≡ table.old ++ more → table.new ≡ self.now) }
+    {
+        for n in 0..self.count {
+            if let Some(text) = self.all.get(n) {
+                table.add(text)?;
+            }
         }
         Ok(())
-    }
-}
-
-// The number that stands so far behind the other one.
-fn number_at(first: usize, n: usize) -> Result<u32, NoMemory> {
-    let at = first.saturating_add(n);
-    if at <= u32::MAX as usize {
-        Ok(at as u32)
-    } else {
-        Err(NoMemory)
     }
 }

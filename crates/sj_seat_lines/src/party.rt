@@ -1,0 +1,261 @@
+//! A party that is played by lines: what each line asks of it, and what is answered.
+use crate::answers::{Answer, put_answer, refused};
+use crate::asks::{Ask, ask_in, cut};
+use crate::fronts::spot_of;
+use crate::names::{Name, bind, end_of, forget, name_of};
+use crate::steps::{NOT_HELD, Step, step_of};
+use sj_base::{EndId, Msg, NoMemory};
+use sj_lang::File;
+use sj_proto::print_protocol;
+use sj_seat::{Guard, SeatRefusal, Wish};
+use sj_seat_texts::Texts;
+use sj_table::Spot;
+use sj_talk::Form;
+use sj_text::put;
+use std::alloc::Global;
+
+/// The rule of a line that has none of the forms.
+const NO_FORM: u8 = 1;
+
+/// A call that was asked for, and what its line says beside it.
+#[derive(Drop)]
+struct Pending {
+    wish: Wish,
+    /// The name of an end that is taken.
+    name: Vec<u8>,
+    /// The ends of a take from several.
+    ends: Vec<EndId>,
+    /// How often it waited.
+    tries: u32,
+}
+
+/// What comes of a line: a call that the seat is asked for, an answer that was put, or the end.
+#[derive(Clone, Copy, Debug, PartialEq, Eq)]
+pub enum Heard {
+    Asks(Wish),
+    Answered,
+    Left,
+}
+
+/// A party that is played by lines: the names of its ends, the texts of the run, how many lines came,
+/// and the line that waits for its call.
+#[derive(Drop)]
+pub struct Party<'a> {
+    alloc: Global,
+    file: &'a File,
+    texts: Texts,
+    names: Vec<Name>,
+    patience: u32,
+    number: u64,
+    pending: Option<Pending>,
+}
+
+impl<'a> Party<'a> {
+    /// The party before its first line, with these names for its ends. A call that waits is tried so
+    /// often again.
+    pub fn new(
+        alloc: Global,
+        file: &'a File,
+        texts: Texts,
+        names: Vec<Name>,
+        patience: u32,
+    ) -> Party<'a> {
+        Party {
+            alloc,
+            file,
+            texts,
+            names,
+            patience,
+            number: 0,
+            pending: None,
+        }
+    }
+
+    /// The texts of the run.
+    pub fn into_texts(self) -> Texts {
+        self.texts
+    }
+
+    /// What comes of the next line. Its answer is put after the text, where it has one already.
+    pub fn hear(
+        &mut self,
+        seat: Guard<'_>,
+        line: &[u8],
+        text: &mut Vec<u8>,
+    ) -> Result<Heard, NoMemory> {
+        self.number = self.number.saturating_add(1);
+        match ask_in(line) {
+            Some(Ask::Talk(form)) => self.hear_form(seat, form, text),
+            Some(Ask::TakeAny(names)) => self.hear_any(seat, names, text),
+            Some(Ask::Ahead(name)) => self.hear_ahead(seat, name, text),
+            Some(Ask::Ends) => self.hear_ends(seat, text),
+            Some(Ask::Leave) => {
+                self.say(text, Answer::Fine)?;
+                Ok(Heard::Left)
+            }
+            None => self.say(text, Answer::Refused(NO_FORM)),
+        }
+    }
+
+    /// What comes of the line that waits, whose call was answered so.
+    pub fn settle(
+        &mut self,
+        answer: Result<Option<Msg>, SeatRefusal>,
+        text: &mut Vec<u8>,
+    ) -> Result<Heard, NoMemory> {
+        let Some(pending) = self.pending.take() else {
+            return Ok(Heard::Answered);
+        };
+        match answer {
+            Err(SeatRefusal::Waiting) if pending.tries < self.patience => {
+                Ok(self.try_again(pending))
+            }
+            Err(refusal) => self.say(text, refused(refusal)),
+            Ok(None) => {
+                self.let_go(pending.wish);
+                self.say(text, Answer::Fine)
+            }
+            Ok(Some(msg)) => self.took(pending, msg, text),
+        }
+    }
+
+    fn say(&self, text: &mut Vec<u8>, answer: Answer<'_>) -> Result<Heard, NoMemory> {
+        put_answer(text, self.file, &self.texts, self.number, answer)?;
+        Ok(Heard::Answered)
+    }
+
+    fn hear_form(
+        &mut self,
+        seat: Guard<'_>,
+        form: Form<'_>,
+        text: &mut Vec<u8>,
+    ) -> Result<Heard, NoMemory> {
+        match step_of(self.file, &mut self.texts, &self.names, seat, form)? {
+            Step::Call(wish) => {
+                let name = match form {
+                    Form::TakeEnd(_, name) => Vec::from_slice(self.alloc, name)?,
+                    _ => Vec::new(self.alloc),
+                };
+                let ends = Vec::new(self.alloc);
+                Ok(self.ask(wish, name, ends))
+            }
+            Step::Refused(rule) => self.say(text, Answer::Refused(rule)),
+        }
+    }
+
+    fn ask(&mut self, wish: Wish, name: Vec<u8>, ends: Vec<EndId>) -> Heard {
+        self.pending = Some(Pending {
+            wish,
+            name,
+            ends,
+            tries: 0,
+        });
+        Heard::Asks(wish)
+    }
+
+    // A take from several ends is refused by the first rule of the first end that has one.
+    fn hear_any(
+        &mut self,
+        seat: Guard<'_>,
+        names: &[u8],
+        text: &mut Vec<u8>,
+    ) -> Result<Heard, NoMemory> {
+        let mut ends = Vec::new(self.alloc);
+        let mut left = names;
+        for _ in 0..names.len() {
+            if left.is_empty() {
+                break;
+            }
+            let (name, rest) = cut(left);
+            let Some(end) = end_of(&self.names, name) else {
+                return self.say(text, Answer::Refused(NOT_HELD));
+            };
+            if let Err(refusal) = seat.take(end) {
+                return self.say(text, refused(refusal));
+            }
+            ends.push(end)?;
+            left = rest;
+        }
+        match ends.first() {
+            Some(end) => {
+                let wish = Wish::Take { end: *end };
+                let name = Vec::new(self.alloc);
+                Ok(self.ask(wish, name, ends))
+            }
+            None => self.say(text, Answer::Refused(NO_FORM)),
+        }
+    }
+
+    // The call once more, of several ends on the next one.
+    fn try_again(&mut self, pending: Pending) -> Heard {
+        let mut pending = pending;
+        pending.tries = pending.tries.saturating_add(1);
+        if !pending.ends.is_empty() {
+            let end = pending.ends[pending.tries as usize % pending.ends.len()];
+            pending.wish = Wish::Take { end };
+        }
+        let wish = pending.wish;
+        self.pending = Some(pending);
+        Heard::Asks(wish)
+    }
+
+    // An end that was closed or sent has no name any more.
+    fn let_go(&mut self, wish: Wish) {
+        match wish {
+            Wish::Close { end } | Wish::Delegate { end, .. } => forget(&mut self.names, end),
+            _ => {}
+        }
+    }
+
+    fn took(&mut self, pending: Pending, msg: Msg, text: &mut Vec<u8>) -> Result<Heard, NoMemory> {
+        if let Msg::Sess { sess, side, .. } = msg {
+            let end = EndId { sess, side };
+            bind(self.alloc, &mut self.names, &pending.name, end)?;
+        }
+        match pending.wish {
+            Wish::Take { end } | Wish::TakeEnd { end } => {
+                let from = name_of(&self.names, end);
+                self.say(text, Answer::Took(from, msg, &pending.name))
+            }
+            _ => self.say(text, Answer::Fine),
+        }
+    }
+
+    fn hear_ahead(
+        &mut self,
+        seat: Guard<'_>,
+        name: &[u8],
+        text: &mut Vec<u8>,
+    ) -> Result<Heard, NoMemory> {
+        match self.place_of(seat, name) {
+            Some(place) => {
+                self.put_ahead(seat, text, place)?;
+                Ok(Heard::Answered)
+            }
+            None => self.say(text, Answer::Refused(NOT_HELD)),
+        }
+    }
+
+    // The place of the end of that name.
+    fn place_of(&self, seat: Guard<'_>, name: &[u8]) -> Option<Spot> {
+        let end = end_of(&self.names, name)?;
+        spot_of(seat, end)
+    }
+
+    fn put_ahead(&self, seat: Guard<'_>, text: &mut Vec<u8>, place: Spot) -> Result<(), NoMemory> {
+        let place = seat.table.place(self.alloc, place)?;
+        put(text, b"ahead ")?;
+        print_protocol(text, &self.file.names, &place)?;
+        put(text, b"\n")
+    }
+
+    fn hear_ends(&self, seat: Guard<'_>, text: &mut Vec<u8>) -> Result<Heard, NoMemory> {
+        put(text, b"ends")?;
+        for held in seat.ends {
+            put(text, b" ")?;
+            put(text, name_of(&self.names, held.end))?;
+        }
+        put(text, b"\n")?;
+        Ok(Heard::Answered)
+    }
+}
