@@ -1,0 +1,5 @@
+pub mod Answers
+pub mod Asks
+pub mod Names
+pub mod Rules
+pub mod Steps

@@ -4,6 +4,7 @@
 mod answers;
 mod asks;
 mod fronts;
+mod laws;
 mod lines;
 mod names;
 mod party;
@@ -12,6 +13,7 @@ mod steps;
 
 pub use answers::{Answer, put_answer};
 pub use asks::{Ask, ask_in};
+pub use laws::lines_are_refused_as_in_a_talk;
 pub use lines::{Ended, Left, Lines};
 pub use names::{Name, first_names};
 pub use party::{Heard, Party};

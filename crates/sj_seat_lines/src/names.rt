@@ -1,4 +1,8 @@
 //! Ends under names.
+ghost use Rattle.std.specs.Prelude.{◌≡◌, ◌∷◌, [], ◌++◌, OnErr, OnOk};
+ghost use Rattle.sj_seat_lines.specs.Names.{named, without};
+ghost use Rattle.sj_talk.specs.Names.{end_named};
+
 use sj_base::{EndId, NoMemory};
 use sj_lang::{EndDecl, File};
 use sj_machine::party_of_name;
@@ -12,7 +16,9 @@ pub struct Name {
 }
 
 /// The end of the name.
-pub(crate) fn end_of(names: &[Name], name: &[u8]) -> Option<EndId> {
+pub(crate) fn end_of(names: &[Name], name: &[u8]) -> Option<EndId>
+    ensures { result ≡ end_named (named names.now) name.now }
+{
     for own in names {
         if own.name.as_slice() == name {
             return Some(own.end);
@@ -21,7 +27,7 @@ pub(crate) fn end_of(names: &[Name], name: &[u8]) -> Option<EndId> {
     None
 }
 
-/// The name of the end.
+/// The name of the end; `?` where it has none.
 pub(crate) fn name_of(names: &[Name], end: EndId) -> &[u8] {
     for own in names {
         if own.end == end {
@@ -32,17 +38,22 @@ pub(crate) fn name_of(names: &[Name], end: EndId) -> &[u8] {
 }
 
 /// Frees the names of the end.
-pub(crate) fn forget(names: &mut Vec<Name>, end: EndId) {
+pub(crate) fn forget(names: &mut Vec<Name>, end: EndId)
+    ensures { named names.new.items ≡ without (named names.old.items) end }
+{
     names.retain(|own| own.end != end);
 }
 
-/// Puts an end behind the others, under its name.
+/// Puts an end after the others, under its name.
 pub(crate) fn bind(
     alloc: Global,
     names: &mut Vec<Name>,
     name: &[u8],
     end: EndId,
-) -> Result<(), NoMemory> {
+) -> Result<(), NoMemory>
+    ensures ok { OnOk result (named names.new.items ≡ named names.old.items ++ (name.now, end) ∷ []) }
+    ensures err { OnErr result (names.new.items ≡ names.old.items) }
+{
     let name = Vec::from_slice(alloc, name)?;
     names.push(Name { name, end })?;
     Ok(())
@@ -53,28 +64,16 @@ pub fn first_names(alloc: Global, file: &File, party: u16) -> Result<Vec<Name>, 
     let mut names = Vec::new(alloc);
     let mut sess: u32 = 0;
     for connect in &file.connects {
-        put_own(
-            alloc,
-            &mut names,
-            file,
-            party,
-            connect.first,
-            EndId { sess, side: 0 },
-        )?;
-        put_own(
-            alloc,
-            &mut names,
-            file,
-            party,
-            connect.second,
-            EndId { sess, side: 1 },
-        )?;
+        let first = EndId { sess, side: 0 };
+        put_own(alloc, &mut names, file, party, connect.first, first)?;
+        let second = EndId { sess, side: 1 };
+        put_own(alloc, &mut names, file, party, connect.second, second)?;
         sess = sess.saturating_add(1);
     }
     Ok(names)
 }
 
-// Puts an end behind the others where it is the party's.
+// Puts an end after the others where it is the party's.
 fn put_own(
     alloc: Global,
     names: &mut Vec<Name>,

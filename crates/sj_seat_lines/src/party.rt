@@ -208,17 +208,17 @@ impl<'a> Party<'a> {
     }
 
     fn took(&mut self, pending: Pending, msg: Msg, text: &mut Vec<u8>) -> Result<Heard, NoMemory> {
+        let (Wish::Take { end } | Wish::TakeEnd { end }) = pending.wish else {
+            return self.say(text, Answer::Fine);
+        };
         if let Msg::Sess { sess, side, .. } = msg {
-            let end = EndId { sess, side };
-            bind(self.alloc, &mut self.names, &pending.name, end)?;
+            let taken = EndId { sess, side };
+            bind(self.alloc, &mut self.names, &pending.name, taken)?;
+            let from = name_of(&self.names, end);
+            return self.say(text, Answer::TookEnd(from, msg, &pending.name));
         }
-        match pending.wish {
-            Wish::Take { end } | Wish::TakeEnd { end } => {
-                let from = name_of(&self.names, end);
-                self.say(text, Answer::Took(from, msg, &pending.name))
-            }
-            _ => self.say(text, Answer::Fine),
-        }
+        let from = name_of(&self.names, end);
+        self.say(text, Answer::Took(from, msg))
     }
 
     fn hear_ahead(

@@ -2,7 +2,7 @@
 use crate::code::ByLines;
 use crate::files::{Before, accepted, file_before};
 use crate::output::{NO_MEMORY, WRITE_FAULT, checked, said, transcript};
-use crate::words::{number_of, party_in};
+use crate::words::{Wanted, number_of, wanted_in};
 use sj_base::{NoMemory, Sink, Source};
 use sj_check::Accepted;
 use sj_lane::RingLinks;
@@ -18,10 +18,7 @@ use std::thread::Threads;
 /// The looks of a party with nothing to do, and of a call that waits.
 pub const LOOKS: u32 = 1_000;
 
-/// How often a call that waits is tried again.
-const PATIENCE: u32 = 1_000;
-
-const USAGE: &[u8] = b"usage: sjseat --local PARTY\n";
+const USAGE: &[u8] = b"usage: sjseat --local PARTY [--tries N]\n";
 
 /// The lines of the party, as code.
 type Code<'a, S, K> = ByLines<'a, S, K>;
@@ -37,12 +34,12 @@ pub fn seat_local<R: Threads + Sync, S: Source + Send + Drop, K: Sink + Send + D
     out: K,
 ) -> u8 {
     let mut out = out;
-    let Some(word) = party_in(words) else {
+    let Some(wanted) = wanted_in(words) else {
         return said(&mut out, USAGE, 1);
     };
     let mut lines = LineReader::new(alloc, src);
     match file_before(alloc, &mut lines) {
-        Ok(Before::File(bytes)) => seat_file(rt, alloc, word, bytes, lines, out),
+        Ok(Before::File(bytes)) => seat_file(rt, alloc, wanted, bytes, lines, out),
         Ok(Before::ReadFault) => said(&mut out, b"read fault\n", 2),
         Ok(Before::TooLarge) => said(&mut out, b"too large\n", 3),
         Ok(Before::NoTalk) => said(&mut out, b"talk L1 at 0\n", 12),
@@ -54,7 +51,7 @@ pub fn seat_local<R: Threads + Sync, S: Source + Send + Drop, K: Sink + Send + D
 fn seat_file<R: Threads + Sync, S: Source + Send + Drop, K: Sink + Send + Drop>(
     rt: &R,
     alloc: Global,
-    word: &[u8],
+    wanted: Wanted<'_>,
     bytes: Vec<u8>,
     lines: LineReader<S>,
     out: K,
@@ -63,10 +60,10 @@ fn seat_file<R: Threads + Sync, S: Source + Send + Drop, K: Sink + Send + Drop>(
     let Some(accepted) = accepted(alloc, &bytes) else {
         return checked(rt, alloc, bytes, &mut out);
     };
-    let Some(party) = number_of(accepted.file(), word) else {
-        return said_no_party(alloc, word, &mut out);
+    let Some(party) = number_of(accepted.file(), wanted.party) else {
+        return said_no_party(alloc, wanted.party, &mut out);
     };
-    match codes_for(alloc, accepted.file(), party, lines, out) {
+    match codes_for(alloc, accepted.file(), party, wanted.tries, lines, out) {
         Ok(codes) => seat(rt, alloc, &accepted, party, &bytes, codes),
         Err(NoMemory) => NO_MEMORY,
     }
@@ -92,12 +89,13 @@ fn codes_for<'a, S: Source + Drop, K: Sink + Drop>(
     alloc: Global,
     file: &'a File,
     party: u16,
+    tries: u32,
     lines: LineReader<S>,
     out: K,
 ) -> Result<Vec<Option<Code<'a, S, K>>>, NoMemory> {
     let texts = Texts::of(alloc, &file.names.texts)?;
     let names = first_names(alloc, file, party)?;
-    let own = Party::new(alloc, file, texts, names, PATIENCE);
+    let own = Party::new(alloc, file, texts, names, tries);
     let mut codes = Vec::new(alloc);
     for _ in 0..party {
         codes.push(None)?;
