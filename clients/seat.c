@@ -1,5 +1,5 @@
-/* A party of a file, played by C over `sjseat --local`: one that answers a question with a number. To copy.
-   usage: seat FILE PARTY END NUMBER, where END begins with the taking of a text and goes on with the sending of a number */
+/* A party of a file, played by C over `sjseat --local`: one that is asked for something, and answers it. To copy.
+   usage: seat FILE PARTY END VALUE, where END begins with the taking of a value and goes on with the sending of VALUE, written as in a line */
 #define _POSIX_C_SOURCE 200809L
 #include <stdio.h>
 #include <stdlib.h>

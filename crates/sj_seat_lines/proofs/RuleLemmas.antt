@@ -176,7 +176,7 @@ module _ (s : Seen) (t : TalkWorld) (alike : SeesAlike s t) where
 
   delegate_by : (same worn : Bool) (o r : Option EndId) → Held o → Held r → ((c e : EndId) → o ≡ Some c → r ≡ Some e → same ≡ is_same_end c e)
       → first_rule ((not_bound, is_none o || is_none r) ∷ (begins_otherwise, not (sends_end (place_by o))) ∷ (wrong_end, same || is_done (place_by r))
-          ∷ (wrong_kind, not (stands_for (place_by r) (carried_next (place_by o)))) ∷ (at_limit, is_full t || worn) ∷ [])
+      ∷ (wrong_kind, not (stands_for (place_by r) (carried_next (place_by o)))) ∷ (at_limit, is_full t || worn) ∷ [])
       ≡ rule_or (rule_of_step s (at_end o (λ c. at_end r (λ e. Call (Delegate c e))))) (worn_if worn)
   delegate_by same worn None r held own one = refl
   delegate_by same worn (Some c) None held own one = refl
@@ -221,15 +221,15 @@ module _ (s : Seen) (t : TalkWorld) (alike : SeesAlike s t) where
   as_in_a_talk (forms.send x v) = alone (forms.send x v) (refusal_of t (Some (forms.send x v))) (send_by v (end_named t.ends x) (held_at x))
   as_in_a_talk (forms.select x l) =
       alone (forms.select x l) (refusal_of t (Some (forms.select x l)))
-        (select_by (label_number t.file l) (end_named t.ends x) (held_at x)
-        ∙ ap (λ k. rule_of_step s (at_end (end_named t.ends x) (λ e. by_label (at (place_held s.ends e)) k e))) (label_is l))
+      (select_by (label_number t.file l) (end_named t.ends x) (held_at x)
+      ∙ ap (λ k. rule_of_step s (at_end (end_named t.ends x) (λ e. by_label (at (place_held s.ends e)) k e))) (label_is l))
   as_in_a_talk (forms.turn x more) = alone (forms.turn x more) (refusal_of t (Some (forms.turn x more))) (turn_by more (end_named t.ends x) (held_at x))
   as_in_a_talk (forms.delegate x y) =
       before (forms.delegate x y) (refusal_of t (Some (forms.delegate x y))) (last_rule t (forms.delegate x y))
-        (delegate_by (bytes_eq x y) (is_worn t y) (end_named t.ends x) (end_named t.ends y) (held_at x) (held_at y) (name_is x y))
+      (delegate_by (bytes_eq x y) (is_worn t y) (end_named t.ends x) (end_named t.ends y) (held_at x) (held_at y) (name_is x y))
   as_in_a_talk (forms.take x) =
       before (forms.take x) (refusal_of t (Some (forms.take x))) (last_rule t (forms.take x)) (take_by (is_none (head_under t x)) (end_named t.ends x) (held_at x))
   as_in_a_talk (forms.take_end x y) =
       before (forms.take_end x y) (refusal_of t (Some (forms.take_end x y))) (last_rule t (forms.take_end x y))
-        (end_by (is_none (head_under t x)) (end_named t.ends y) (end_named t.ends x) (held_at x))
+      (end_by (is_none (head_under t x)) (end_named t.ends y) (end_named t.ends x) (held_at x))
   as_in_a_talk (forms.close x) = alone (forms.close x) (refusal_of t (Some (forms.close x))) (close_by (end_named t.ends x) (held_at x))

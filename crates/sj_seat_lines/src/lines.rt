@@ -4,7 +4,6 @@ use crate::party::{Heard, Party};
 use crate::reader::{LineReader, Next};
 use sj_base::{Msg, NoMemory, Sink, Source, write_all_of};
 use sj_seat::{Guard, SeatRefusal, Wish};
-use sj_seat_texts::Texts;
 use std::alloc::Global;
 
 /// How the lines of a party ended.
@@ -32,11 +31,10 @@ pub struct Lines<'a, S, K> {
     ended: Option<Ended>,
 }
 
-/// What lines leave: how they ended, the texts of the run, and where the answers went.
+/// What lines leave: how they ended, and where the answers went.
 #[derive(Drop)]
 pub struct Left<K> {
     pub ended: Option<Ended>,
-    pub texts: Texts,
     pub sink: K,
 }
 
@@ -56,7 +54,6 @@ impl<'a, S: Source + Drop, K: Sink + Drop> Lines<'a, S, K> {
     pub fn into_left(self) -> Left<K> {
         Left {
             ended: self.ended,
-            texts: self.party.into_texts(),
             sink: self.sink,
         }
     }

@@ -71,11 +71,6 @@ impl<'a> Party<'a> {
         }
     }
 
-    /// The texts of the run.
-    pub fn into_texts(self) -> Texts {
-        self.texts
-    }
-
     /// What comes of the next line. Its answer is put after the text, where it has one already.
     pub fn hear(
         &mut self,
@@ -162,10 +157,7 @@ impl<'a> Party<'a> {
     ) -> Result<Heard, NoMemory> {
         let mut ends = Vec::new(self.alloc);
         let mut left = names;
-        for _ in 0..names.len() {
-            if left.is_empty() {
-                break;
-            }
+        while !left.is_empty() {
             let (name, rest) = cut(left);
             let Some(end) = end_of(&self.names, name) else {
                 return self.say(text, Answer::Refused(NOT_HELD));
@@ -174,7 +166,10 @@ impl<'a> Party<'a> {
                 return self.say(text, refused(refusal));
             }
             ends.push(end)?;
-            left = rest;
+            left = match rest {
+                Some(rest) => rest,
+                None => &[],
+            };
         }
         match ends.first() {
             Some(end) => {

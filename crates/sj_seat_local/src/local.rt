@@ -64,7 +64,7 @@ fn seat_file<R: Threads + Sync, S: Source + Send + Drop, K: Sink + Send + Drop>(
         return said_no_party(alloc, wanted.party, &mut out);
     };
     match codes_for(alloc, accepted.file(), party, wanted.tries, lines, out) {
-        Ok(codes) => seat(rt, alloc, &accepted, party, &bytes, codes),
+        Ok(codes) => seat(rt, alloc, &accepted, party, codes),
         Err(NoMemory) => NO_MEMORY,
     }
 }
@@ -111,7 +111,6 @@ fn seat<R: Threads + Sync, S: Source + Send + Drop, K: Sink + Send + Drop>(
     alloc: Global,
     accepted: &Accepted,
     party: u16,
-    bytes: &[u8],
     codes: Vec<Option<Code<'_, S, K>>>,
 ) -> u8 {
     match run_seated(
@@ -123,7 +122,7 @@ fn seat<R: Threads + Sync, S: Source + Send + Drop, K: Sink + Send + Drop>(
         &mut RingLinks::new(),
         &NoGate,
     ) {
-        Ok(run) => ended(alloc, bytes, party, run),
+        Ok(run) => ended(alloc, accepted.file(), party, run),
         Err(SeatedRefusal::LinkFault) => 8,
         Err(SeatedRefusal::NoMemory) => NO_MEMORY,
         Err(_) => 9,
@@ -133,7 +132,7 @@ fn seat<R: Threads + Sync, S: Source + Send + Drop, K: Sink + Send + Drop>(
 // Writes how the run ended.
 fn ended<S: Source + Drop, K: Sink + Drop>(
     alloc: Global,
-    bytes: &[u8],
+    file: &File,
     party: u16,
     run: SeatedRun<Code<'_, S, K>>,
 ) -> u8 {
@@ -144,12 +143,12 @@ fn ended<S: Source + Drop, K: Sink + Drop>(
     let Some(code) = run.codes.swap_remove(party as usize) else {
         return NO_MEMORY;
     };
-    let Left { ended, texts, sink } = code.lines.into_left();
+    let Left { ended, sink } = code.lines.into_left();
     let mut out = sink;
     match ended {
         Some(Ended::Unread) => 2,
         Some(Ended::Unwritten) => WRITE_FAULT,
         Some(Ended::NoMemory) => NO_MEMORY,
-        _ => transcript(alloc, bytes, &texts, &run.world, &mut out),
+        _ => transcript(alloc, file, &run.world, &mut out),
     }
 }

@@ -1,8 +1,7 @@
 //! What is written at the end, and the status.
-use crate::files::file_of;
 use sj_base::{MemSource, NoMemory, Sink, write_all_of};
 use sj_lane::RingLinks;
-use sj_seat_texts::Texts;
+use sj_lang::File;
 use sj_seat_told::{TranscriptRefusal, put_transcript, stands, verdict};
 use sj_seats::SeatedWorld;
 use sj_semantics::Verdict;
@@ -52,23 +51,15 @@ pub(crate) fn checked<R: Threads + Sync, K: Sink>(
     )
 }
 
-/// Writes the transcript of the drained world, of the file that these bytes are. Answers the status of
-/// its verdict.
+/// Writes the transcript of the drained world of the file, and answers the status of its verdict.
 pub(crate) fn transcript<K: Sink>(
     alloc: Global,
-    bytes: &[u8],
-    texts: &Texts,
+    file: &File,
     world: &SeatedWorld,
     out: &mut K,
 ) -> u8 {
-    let Some(mut file) = file_of(alloc, bytes) else {
-        return NO_MEMORY;
-    };
-    if texts.add_to(&mut file.names.texts).is_err() {
-        return NO_MEMORY;
-    }
     let mut text = Vec::new(alloc);
-    match put_transcript(alloc, &mut text, &file, world) {
+    match put_transcript(alloc, &mut text, file, world) {
         Ok(()) => {}
         Err(TranscriptRefusal::Opened) => {
             return said(out, b"no transcript: a session was opened\n", OPENED);

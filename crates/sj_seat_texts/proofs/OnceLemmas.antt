@@ -3,7 +3,7 @@ use Rattle.std.proofs.Common.{if◌then◌else◌, ◌≡◌, ◌≢◌, ℕ, ze
 use Rattle.std.proofs.lemmas.Bool.{cases_lt}
 use Rattle.std.proofs.lemmas.Option.{slice_get_past}
 use Rattle.sj_lang.specs.Words.{IsAbsent, IsFirstIndex}
-use Rattle.sj_seat_texts.specs.Once.{IsCounted, IsEachOnce}
+use Rattle.sj_seat_texts.specs.Once.{IsCounted, IsEachOnce, most_texts}
 
 -- ---- what stands where
 
@@ -80,6 +80,17 @@ once_more old word once none n x e = elim (behind old word n x e) [
     after : n ≡ length old → word ≡ x → (k : ℕ) → k < n → ((slice_get old k ≡ Some x) ⊎ ((k ≡ length old) × (word ≡ x))) → ⊥
     after is same k lt (inl there) = none k (there ∙ ap Some (sym same))
     after is same k lt (inr last) = absurd (omega (arith, lt, is, last.0))
+
+-- so many are counted
+pub counted_none : IsCounted [] 0
+counted_none = record { once = λ n word e. absurd (no n word e); all = refl; few = omega arith }
+  where
+    no : (n : ℕ) (word : List ℕ) → slice_get [] n ≡ Some word → ⊥
+    no zero word e = absurd (cc)
+    no (suc n) word e = absurd (cc)
+
+pub counted_more : (old : List (List ℕ)) (word : List ℕ) (count : ℕ) → IsCounted old count → IsAbsent word old → count < most_texts → IsCounted (old ++ word ∷ []) (count + 1)
+counted_more old word count h none few = record { once = once_more old word h.once none; all = omega (arith, h.all, length-append old (word ∷ [])); few = omega (arith, few) }
 
 -- ---- words that are added in the order of a table with each once
 

@@ -1,5 +1,5 @@
 //! The texts of a run, each under its number.
-ghost use Rattle.std.specs.Prelude.{◌≡◌, ◌∷◌, ◌++◌, IfOk, List, OnErr, OnOk, length, nat_lt, slice_get, if◌then◌else◌, ℕ};
+ghost use Rattle.std.specs.Prelude.{◌≡◌, [], ◌∷◌, ◌++◌, IfOk, List, OnErr, OnOk, length, nat_lt, slice_get, if◌then◌else◌, ℕ};
 ghost use Rattle.std.specs.Option.{option_copied};
 ghost use Rattle.sj_lang.specs.Words.{IsFirstIndex};
 ghost use Rattle.sj_seat_texts.specs.Once.{IsEachOnce};
@@ -38,10 +38,7 @@ impl Texts {
     pub fn of(alloc: Global, file: &Words) -> Result<Texts, NoMemory>
         ensures file { IfOk result (λ t. IsEachOnce file.now → t ≡ file.now) }
     {
-        let mut texts = Texts {
-            all: Words::new(alloc),
-            count: 0,
-        };
+        let mut texts = empty(alloc);
         for n in 0..MOST_TEXTS {
             let Some(text) = file.get(n) else {
                 return Ok(texts);
@@ -93,5 +90,14 @@ impl Texts {
             }
         }
         Ok(())
+    }
+}
+
+fn empty(alloc: Global) -> Texts
+    ensures { result ≡ [] }
+{
+    Texts {
+        all: Words::new(alloc),
+        count: 0,
     }
 }
