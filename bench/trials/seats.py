@@ -58,8 +58,8 @@ def played(rng, text, party, log):
 
 
 def without(transcript, party):
-    """The transcript without how that party stands: a code that waits does so at its first open end, a party of a file at that of its statement."""
-    return re.sub(rb"(?m)^party %s waits .*\n" % party, b"", transcript)
+    """The transcript without how that party stands: a code that waits does so at its first open end, a party of a file at that of its statement; and a code's steps are its calls."""
+    return re.sub(rb"(?m)^party %s (ended|waits) .*\n" % party, rb"\1\n", transcript)
 
 
 def any_line(rng, names, labels):
