@@ -7,6 +7,7 @@ ghost use Rattle.std.specs.Prelude.{◌≡◌, ◌∷◌, ◌++◌, [], OnErr, O
 ghost use Rattle.sj_lang.specs.FileView.{file_of};
 ghost use Rattle.sj_print.specs.Pieces.{message_text};
 ghost use Rattle.sj_seat_lines.specs.Answers.{answer_line, rule_words, why};
+ghost use Rattle.sj_seat_lines.specs.Heard.{refusal_answer};
 ghost use Rattle.sj_semantics.specs.Lines.{line_of, message_words, quoted_at};
 ghost use Rattle.sj_talk.specs.Names.{with_texts};
 ghost use Rattle.sj_text.specs.Cut.{IsCutShort};
@@ -38,7 +39,9 @@ pub enum Answer<'a> {
 }
 
 /// What a line is answered whose call was refused so.
-pub(crate) fn refused(refusal: SeatRefusal) -> Answer<'static> {
+pub(crate) fn refused(refusal: SeatRefusal) -> Answer<'static>
+    ensures { result ≡ refusal_answer refusal }
+{
     match refusal {
         SeatRefusal::NotHeld => Answer::Refused(2),
         SeatRefusal::BeginsOtherwise => Answer::Refused(3),

@@ -1,5 +1,6 @@
 //! Ends under names.
 ghost use Rattle.std.specs.Prelude.{◌≡◌, ◌∷◌, [], ◌++◌, OnErr, OnOk};
+ghost use Rattle.sj_seat_lines.specs.Heard.{name_in};
 ghost use Rattle.sj_seat_lines.specs.Names.{named, without};
 ghost use Rattle.sj_talk.specs.Names.{end_named};
 
@@ -28,7 +29,9 @@ pub(crate) fn end_of(names: &[Name], name: &[u8]) -> Option<EndId>
 }
 
 /// The name of the end; `?` where it has none.
-pub(crate) fn name_of(names: &[Name], end: EndId) -> &[u8] {
+pub(crate) fn name_of(names: &[Name], end: EndId) -> &[u8]
+    ensures { result.now ≡ name_in (named names.now) end }
+{
     for own in names {
         if own.end == end {
             return own.name.as_slice();

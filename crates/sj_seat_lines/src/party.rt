@@ -1,4 +1,16 @@
 //! A party that is played by lines: what each line asks of it, and what is answered.
+ghost use Rattle.std.specs.List.{list_all};
+ghost use Rattle.std.specs.Prelude.{◌≡◌, ◌+◌, ◌++◌, IfOk, min, true};
+ghost use Rattle.sj_lang.specs.FileView.{file_of};
+ghost use Rattle.sj_seat_lines.specs.Answers.{answer_line};
+ghost use Rattle.sj_seat_lines.specs.Asks as asking;
+ghost use Rattle.sj_seat_lines.specs.Asks.{ask_of};
+ghost use Rattle.sj_seat_lines.specs.Heard.{IsHeard, heard_ask, heard_of, last_number, number_of, seen_by};
+ghost use Rattle.sj_seat_lines.specs.declared.party.Heard.TheVariants.{Answered};
+ghost use Rattle.sj_talk.specs.Forms.{is_short_name};
+ghost use Rattle.sj_talk.specs.Play.{form_at};
+ghost use Rattle.sj_talk.specs.Words.{words_in};
+
 use crate::answers::{Answer, put_answer, refused};
 use crate::asks::{Ask, ask_in, cut};
 use crate::fronts::spot_of;
@@ -77,7 +89,12 @@ impl<'a> Party<'a> {
         seat: Guard<'_>,
         line: &[u8],
         text: &mut Vec<u8>,
-    ) -> Result<Heard, NoMemory> {
+    ) -> Result<Heard, NoMemory>
+        // The number of the line, and what comes of it by what is seen then.
+        ensures number { number_of self.new ≡ min (number_of self.old + 1) last_number }
+        ensures heard { IfOk result (λ h. IsHeard h text.old.items text.new.items
+            (heard_of (seen_by self.old seat (number_of self.new)) (ask_of line.now))) }
+    {
         self.number = self.number.saturating_add(1);
         match ask_in(line) {
             Some(Ask::Talk(form)) => self.hear_form(seat, form, text),
@@ -114,7 +131,10 @@ impl<'a> Party<'a> {
         }
     }
 
-    fn say(&self, text: &mut Vec<u8>, answer: Answer<'_>) -> Result<Heard, NoMemory> {
+    fn say(&self, text: &mut Vec<u8>, answer: Answer<'_>) -> Result<Heard, NoMemory>
+        ensures ok { IfOk result (λ h. (h ≡ Answered) × (text.new.items ≡ text.old.items
+            ++ answer_line (file_of self.now.file.now) self.now.texts (number_of self.now) answer)) }
+    {
         put_answer(text, self.file, &self.texts, self.number, answer)?;
         Ok(Heard::Answered)
     }
@@ -124,7 +144,11 @@ impl<'a> Party<'a> {
         seat: Guard<'_>,
         form: Form<'_>,
         text: &mut Vec<u8>,
-    ) -> Result<Heard, NoMemory> {
+    ) -> Result<Heard, NoMemory>
+        ensures heard { IfOk result (λ h. IsHeard h text.old.items text.new.items
+            (heard_ask (seen_by self.old seat (number_of self.old)) (asking.talk (form_at form)))) }
+        ensures number { number_of self.new ≡ number_of self.old }
+    {
         match step_of(self.file, &mut self.texts, &self.names, seat, form)? {
             Step::Call(wish) => {
                 let name = match form {
@@ -154,7 +178,12 @@ impl<'a> Party<'a> {
         seat: Guard<'_>,
         names: &[u8],
         text: &mut Vec<u8>,
-    ) -> Result<Heard, NoMemory> {
+    ) -> Result<Heard, NoMemory>
+        requires names { list_all is_short_name (words_in names.now) ≡ true }
+        ensures heard { IfOk result (λ h. IsHeard h text.old.items text.new.items
+            (heard_ask (seen_by self.old seat (number_of self.old)) (asking.take_any (words_in names.now)))) }
+        ensures number { number_of self.new ≡ number_of self.old }
+    {
         let mut ends = Vec::new(self.alloc);
         let mut left = names;
         while !left.is_empty() {
@@ -217,11 +246,14 @@ impl<'a> Party<'a> {
     }
 
     fn hear_ahead(
-        &mut self,
+        &self,
         seat: Guard<'_>,
         name: &[u8],
         text: &mut Vec<u8>,
-    ) -> Result<Heard, NoMemory> {
+    ) -> Result<Heard, NoMemory>
+        ensures heard { IfOk result (λ h. IsHeard h text.old.items text.new.items
+            (heard_ask (seen_by self.now seat (number_of self.now)) (asking.ahead name.now))) }
+    {
         match self.place_of(seat, name) {
             Some(place) => {
                 self.put_ahead(seat, text, place)?;
@@ -244,7 +276,10 @@ impl<'a> Party<'a> {
         put(text, b"\n")
     }
 
-    fn hear_ends(&self, seat: Guard<'_>, text: &mut Vec<u8>) -> Result<Heard, NoMemory> {
+    fn hear_ends(&self, seat: Guard<'_>, text: &mut Vec<u8>) -> Result<Heard, NoMemory>
+        ensures heard { IfOk result (λ h. IsHeard h text.old.items text.new.items
+            (heard_ask (seen_by self.now seat (number_of self.now)) asking.ends)) }
+    {
         put(text, b"ends")?;
         for held in seat.ends {
             put(text, b" ")?;
