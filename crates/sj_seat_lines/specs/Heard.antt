@@ -14,7 +14,7 @@ use Rattle.sj_seat.specs.declared.refusal.SeatRefusal.{SeatRefusal}
 use Rattle.sj_seat.specs.declared.refusal.SeatRefusal.TheVariants as refusals
 use Rattle.sj_seat.specs.declared.wish.Wish.{Wish}
 use Rattle.sj_seat.specs.declared.wish.Wish.TheVariants.{Take}
-use Rattle.sj_seat_laws.specs.Calls as calls
+use Rattle.sj_seat_laws.specs.Calls as laws
 use Rattle.sj_seat_laws.specs.Calls.{place_held}
 use Rattle.sj_semantics.specs.Lines.{line_of}
 use Rattle.sj_talk.specs.Names.{Ends, end_named}
@@ -38,7 +38,7 @@ pub record SeenAt : Type 0 where
   pub file : FileAt
   pub texts : List (List ℕ)
   pub names : Ends
-  pub ends : calls.Ends
+  pub ends : laws.Ends
   pub calls : ℕ
   pub number : ℕ
 

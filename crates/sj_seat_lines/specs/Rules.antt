@@ -7,7 +7,7 @@ use Rattle.sj_seat.specs.Rules.{first_refusal}
 use Rattle.sj_seat.specs.Wishes.{tests_of}
 use Rattle.sj_seat.specs.declared.refusal.SeatRefusal.{SeatRefusal}
 use Rattle.sj_seat.specs.declared.refusal.SeatRefusal.TheVariants as refusals
-use Rattle.sj_seat_laws.specs.Calls as calls
+use Rattle.sj_seat_laws.specs.Calls as laws
 use Rattle.sj_seat_laws.specs.Calls.{place_held}
 use Rattle.sj_semantics.specs.Ends.{end_at}
 use Rattle.sj_talk.specs.Forms as forms
@@ -34,7 +34,7 @@ pub record Seen : Type 0 where
   pub texts : List (List ℕ)
   pub known : ℕ
   pub names : Ends
-  pub ends : calls.Ends
+  pub ends : laws.Ends
   pub calls : ℕ
 
 -- the rule that refuses what a line comes to: at once, or as the guard's first
