@@ -2,16 +2,21 @@
 //! the file did, as the lines report it.
 
 use sj_check::{Accepted, check};
-use sj_core::{World, first_nodes};
+use sj_core::World;
+use sj_log::parted;
 use sj_party::parse_file;
 use sj_plain::Plain;
 use sj_print::print_transcript;
 use sj_proto::Tokens;
 use sj_seat::seat_table;
+use sj_seat_replay::{SeatReplayRefusal, put_history, replay_seated};
 use sj_seat_told::{TranscriptRefusal, put_transcript};
 use sj_seats::SeatedWorld;
 use std::alloc::Global;
 use std::test::Fail;
+
+/// The most bytes of a log.
+const MOST_BYTES: usize = 16_777_216;
 
 // A buyer, who asks for a number of things, and a seller, who answers.
 const SHOP: &[u8] = b"protocol buys { begin.!<int>.?{YES: ?(String), NO:} }
@@ -55,24 +60,30 @@ fn accepted(alloc: Global, text: &[u8]) -> Result<Accepted, Fail> {
     }
 }
 
-/// The transcript of the file where that party is played by code. It calls what the party of the
-/// file did, as far as so many lines report it, and then nothing more.
-fn seated(
+/// Of each party whether it is that one.
+fn seats_for(alloc: Global, accepted: &Accepted, party: usize) -> Result<Vec<bool>, Fail> {
+    let mut seats = Vec::new(alloc);
+    for at in 0..accepted.file().parties.len() {
+        seats.push(at == party)?;
+    }
+    Ok(seats)
+}
+
+/// The world of the file where that party is played by code. It calls what the party of the file
+/// did, as far as so many lines report it, and then nothing more.
+fn seated_world(
     alloc: Global,
     accepted: &Accepted,
     party: usize,
     most: usize,
-) -> Result<Result<Vec<u8>, TranscriptRefusal>, Fail> {
+) -> Result<SeatedWorld, Fail> {
     let mut own = World::start(alloc, accepted)?;
     own.drain()?;
     let mut lines = Vec::new(alloc);
     for line in own.history().iter().take(most) {
         lines.push(*line)?;
     }
-    let mut seats = Vec::new(alloc);
-    for at in 0..accepted.file().parties.len() {
-        seats.push(at == party)?;
-    }
+    let seats = seats_for(alloc, accepted, party)?;
     if seats.len() != accepted.file().parties.len() {
         return Err(Fail::from("a seat is missing"));
     }
@@ -83,11 +94,42 @@ fn seated(
         return Err(Fail::from("a misfit"));
     };
     world.drain()?;
+    Ok(world)
+}
+
+/// The transcript of that world.
+fn seated(
+    alloc: Global,
+    accepted: &Accepted,
+    party: usize,
+    most: usize,
+) -> Result<Result<Vec<u8>, TranscriptRefusal>, Fail> {
+    let world = seated_world(alloc, accepted, party, most)?;
     let mut text = Vec::new(alloc);
     match put_transcript(alloc, &mut text, accepted.file(), &world) {
         Ok(()) => Ok(Ok(text)),
         Err(refusal) => Ok(Err(refusal)),
     }
+}
+
+/// The log does not lead on with these seats, or it leads to a world.
+fn replayed(
+    alloc: Global,
+    accepted: &Accepted,
+    party: usize,
+    text: &[u8],
+) -> Result<Result<SeatedWorld, SeatReplayRefusal>, Fail> {
+    let seats = seats_for(alloc, accepted, party)?;
+    if seats.len() != accepted.file().parties.len() {
+        return Err(Fail::from("a seat is missing"));
+    }
+    let Some((_, version, log)) = parted(text) else {
+        return Err(Fail::from("no log"));
+    };
+    if log.len() > MOST_BYTES {
+        return Err(Fail::from("too long"));
+    }
+    Ok(replay_seated(alloc, accepted, &seats, version, log))
 }
 
 #[test]
@@ -128,5 +170,43 @@ fn a_run_with_an_opened_session_has_no_transcript(rt: HostRuntime) -> Result<(),
     let accepted = accepted(alloc, OPENED)?;
     let text = seated(alloc, &accepted, 2, usize::MAX)?;
     assert_eq!(rt; text.as_deref(), Err(&TranscriptRefusal::Opened));
+    Ok(())
+}
+
+#[test]
+fn a_printed_history_is_done_again(rt: HostRuntime) -> Result<(), Fail> {
+    let alloc = rt.alloc();
+    for (file, party) in [(SHOP, 0), (HANDED, 1), (OPENED, 2)] {
+        let accepted = accepted(alloc, file)?;
+        let world = seated_world(alloc, &accepted, party, usize::MAX)?;
+        let mut text = Vec::new(alloc);
+        put_history(&mut text, accepted.file(), &world)?;
+        let Ok(again) = replayed(alloc, &accepted, party, &text)? else {
+            return Err(Fail::from("refused"));
+        };
+        assert_eq!(rt; again.history(), world.history(), "party {party}");
+    }
+    Ok(())
+}
+
+#[test]
+fn a_line_that_is_not_due_is_refused(rt: HostRuntime) -> Result<(), Fail> {
+    let alloc = rt.alloc();
+    let accepted = accepted(alloc, HANDED)?;
+    let text: &[u8] = b"%%log
+1 a send 0.0 int 5
+2 a send 0.0 int 5
+";
+    match replayed(alloc, &accepted, 1, text)? {
+        Err(SeatReplayRefusal::Entry(misfit)) => assert_eq!(rt; misfit.number, 2),
+        _ => return Err(Fail::from("taken")),
+    }
+    let unread: &[u8] = b"%%log
+1 a gives 0.0 int 5
+";
+    match replayed(alloc, &accepted, 1, unread)? {
+        Err(SeatReplayRefusal::Text { rule, line }) => assert_eq!(rt; (rule, line), (1, 1)),
+        _ => return Err(Fail::from("read")),
+    }
     Ok(())
 }
