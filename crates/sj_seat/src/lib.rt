@@ -2,6 +2,7 @@
 #![tactic(auto)]
 
 mod again;
+mod ask;
 mod attend;
 mod calls;
 mod deeds;
@@ -22,6 +23,7 @@ mod starts;
 mod turns;
 mod wish;
 
+pub use ask::{Answer, Ask, Outcome};
 pub use ends::{HeldEnd, go_on};
 pub use firsts::first_ends;
 pub use guards::Guard;
