@@ -24,7 +24,7 @@ mod turns;
 mod wish;
 
 pub use ask::{Answer, Ask, Outcome};
-pub use ends::{HeldEnd, go_on};
+pub use ends::{HeldEnd, go_on, hold};
 pub use firsts::first_ends;
 pub use guards::Guard;
 pub use guest::Guest;
@@ -34,4 +34,4 @@ pub use laws::the_rules_are_the_guard;
 pub use openings::{Opening, Openings, party_openings};
 pub use places::carries_places;
 pub use refusal::SeatRefusal;
-pub use wish::{OpenWish, Wish};
+pub use wish::{OpenWish, OpenedSession, Wish};
