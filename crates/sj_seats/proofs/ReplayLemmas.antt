@@ -1,13 +1,16 @@
 -- Lines that are done again one by one, and become the history.
-use Rattle.std.proofs.Common.{◌≡◌, ℕ, ◌+◌, ◌<◌, ◌≤◌, max, Bool, List, [], ◌∷◌, ◌++◌, map, length, take, drop, get_or, Some, ap, sym, ◌∙◌, subst, arith}
+use Rattle.std.proofs.Common.{◌≡◌, ℕ, ◌+◌, ◌<◌, ◌≤◌, max, Bool, List, [], ◌∷◌, ◌++◌, map, length, take, drop, get_or, Option, Some, None, Result, IfOk, ap, sym, ◌∙◌, subst, arith}
+use Rattle.std.specs.Prelude.{IfSome}
 use Rattle.std.proofs.lemmas.List.{length-map, length-take-le, map-append, take_all}
 use Rattle.sj_core.proofs.ReplayLemmas.{next_taken, split_there}
-use Rattle.sj_core.specs.Views.{line_at}
+use Rattle.sj_core.specs.Views.{line_at, line_with}
 use Rattle.sj_core.specs.declared.refusal.ReplayRefusal.{ReplayRefusal}
 use Rattle.sj_core.specs.declared.refusal.ReplayRefusal.TheVariants as refusals
+use Rattle.sj_end.specs.Lines.{note_seen}
+use Rattle.sj_end.specs.declared.note.Entry.{Entry}
 use Rattle.sj_end.specs.declared.note.Line.{Line}
 use Rattle.sj_lang.specs.FileAt.{FileAt}
-use Rattle.sj_rules.specs.Log.{LineAt}
+use Rattle.sj_rules.specs.Log.{LineAt, NoteAt}
 use Rattle.sj_seat_laws.specs.SeatsStart.{Callers}
 use Rattle.sj_seat_told_laws.specs.SeatsHistory.{IsSeatsHistory}
 use Rattle.sj_seats.specs.Calls.{OpenedAs, callers_by, then_calls}
@@ -15,6 +18,7 @@ use Rattle.sj_seats.specs.Core.{is_seat}
 use Rattle.sj_seats.specs.Played.{IsLedBy, IsReached, Redoes, chairs_in, core_in, file_in, history_in, opened_in}
 use Rattle.sj_seats.specs.Replaying.{IsMisfitFrom, IsMisfitHere}
 use Rattle.sj_seats.specs.declared.played.PlayedWorld.{PlayedWorld}
+use Rattle.sj_seats.proofs.AnswerLemmas.{done_so}
 use Rattle.sj_seats.proofs.ToldLemmas.{callers_end}
 use Rattle.sj_seats.proofs.GoingLemmas.{led_on}
 
@@ -60,3 +64,12 @@ pub run_told : (c : PlayedWorld) → IsReached c → IsSeatsHistory max (file_in
 run_told c reached =
     subst (λ (cs : Callers). IsSeatsHistory max (file_in c) cs (history_in c) (core_in c Rattle.sj_seats.specs.Calls.no_calls))
     (Rattle.sj_seats.proofs.ToldLemmas.callers_end (is_seat (chairs_in c)) (opened_in c) (history_in c)) (reached.run Rattle.sj_seats.specs.Calls.no_calls)
+
+-- where it made the line that was logged, that is done
+pub redone_so : (c d : PlayedWorld) (o : Option Line) (l : Line) → IfSome o (λ x. x ≡ l → Redoes c (line_at x) d) → o ≡ Some l → Redoes c (line_at l) d
+redone_so c d None l made is = absurd (cc is)
+redone_so c d (Some x) l made is = let same : x ≡ l = cc is in subst (λ (m : Line). Redoes c (line_at m) d) same (made same)
+
+-- whatever its note is
+pub redone_any : {E : Type 0} (c d : PlayedWorld) (r : Result (Option Entry) E) (party : ℕ) (note : NoteAt) → IfOk r (λ o. IfSome o (λ e. Redoes c (line_with party e) d)) → IfOk r (λ o. IfSome o (λ e. note_seen e.note ≡ note → Redoes c (line_with party e) d))
+redone_any c d r party note h = done_so r (λ e. Redoes c (line_with party e) d) (λ e. note_seen e.note ≡ note → Redoes c (line_with party e) d) (λ e x same. x) h

@@ -53,7 +53,7 @@ impl PlayedWorld {
     /// isn't listed.
     fn made_line(&mut self, line: &Line) -> Result<Option<Line>, NoMemory>
         requires led { IsLed self.old }
-        ensures done { IfOk result (λ o. IfSome o (λ l. line_at l ≡ line_at line.now →
+        ensures done { IfOk result (λ o. IfSome o (λ l. l ≡ line.now →
             Redoes self.old (line_at l) self.new)) }
     {
         if !self.is_there(line.party, line.entry.event) {
