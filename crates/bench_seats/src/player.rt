@@ -4,7 +4,7 @@ use crate::clocks::{nanos_since, now};
 use crate::file::{Kind, MESSAGES, goes_out};
 use sj_base::{EndId, Msg};
 use sj_seat::{Guard, SeatRefusal, Wish};
-use sj_seat_run::{Answer, Play};
+use sj_seat_run::{Answer, Ask, Outcome, Play};
 use std::time::{Clock, Instant};
 
 /// Code that sends and takes numbers, in turns of a loop. It looks at the clock before its first
@@ -65,9 +65,16 @@ impl<'a, R: Clock> Player<'a, R> {
     }
 
     /// What it wanted is done. Answers whether it goes on.
-    fn go_on(&mut self, msg: Option<Msg>) -> bool {
+    fn go_on(&mut self, outcome: Outcome) -> bool {
         let Some(number) = self.done else {
-            let ends = msg == Some(Msg::More(false)) || (self.first && self.turns == 0);
+            let over = matches!(
+                outcome,
+                Outcome::Took {
+                    msg: Msg::More(false),
+                    ..
+                }
+            );
+            let ends = over || (self.first && self.turns == 0);
             self.turns = self.turns.saturating_sub(1);
             self.done = Some(0);
             return !ends;
@@ -80,18 +87,18 @@ impl<'a, R: Clock> Player<'a, R> {
 }
 
 impl<R: Clock> Play for Player<'_, R> {
-    fn next(&mut self, _seat: Guard<'_>, answer: Option<Answer>) -> Option<Wish> {
+    fn next(&mut self, _seat: Guard<'_>, answer: Option<Answer>) -> Option<Ask> {
         let goes_on = match answer {
             None => {
                 self.began = now(self.clock);
                 true
             }
-            Some(Ok(msg)) => self.go_on(msg),
+            Some(Ok(outcome)) => self.go_on(outcome),
             Some(Err(SeatRefusal::Waiting)) => true,
             Some(Err(_)) => false,
         };
         if goes_on {
-            return Some(self.wish());
+            return Some(Ask::Step(self.wish()));
         }
         self.nanos = nanos_since(self.clock, &self.began);
         None

@@ -1,7 +1,7 @@
 //! A seat whose code misuses an end, and goes on.
 
 use sj_seat::{Guard, SeatRefusal, Wish};
-use sj_seat_run::{Answer, Play};
+use sj_seat_run::{Answer, Ask, Play};
 
 /// Asks for one thing after another, whatever became of the last one, and keeps the refusals.
 #[derive(Drop)]
@@ -22,7 +22,7 @@ impl Clumsy {
 }
 
 impl Play for Clumsy {
-    fn next(&mut self, _seat: Guard<'_>, answer: Option<Answer>) -> Option<Wish> {
+    fn next(&mut self, _seat: Guard<'_>, answer: Option<Answer>) -> Option<Ask> {
         if let Some(Err(refusal)) = answer {
             if self.refused.push(refusal).is_err() {
                 return None;
@@ -30,7 +30,10 @@ impl Play for Clumsy {
         }
         let wish = self.wishes.get(self.next).copied();
         self.next = self.next.saturating_add(1);
-        wish
+        match wish {
+            Some(wish) => Some(Ask::Step(wish)),
+            None => None,
+        }
     }
 }
 

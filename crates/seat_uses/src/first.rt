@@ -2,48 +2,67 @@
 
 use sj_base::Msg;
 use sj_seat::{Guard, SeatRefusal, Wish};
-use sj_seat_run::{Answer, Play};
+use sj_seat_run::{Answer, Ask, Outcome, Play};
+use std::alloc::Global;
 
-/// Takes numbers on all ends that it holds, from whichever has one, and closes each end of which
-/// nothing is ahead.
+/// Takes numbers on all ends that it holds, from whichever has one first, and closes each end of
+/// which nothing is ahead.
 #[derive(Drop)]
 pub struct Firsts {
+    alloc: Global,
     /// The sum of the numbers that it took.
     pub sum: i64,
-    /// How often nothing was there.
-    turn: usize,
+    /// How often it asks again for what hasn't come.
+    patience: u32,
 }
 
 impl Firsts {
-    pub fn new() -> Firsts {
-        Firsts { sum: 0, turn: 0 }
+    pub fn new(alloc: Global) -> Firsts {
+        Firsts {
+            alloc,
+            sum: 0,
+            patience: 10_000,
+        }
+    }
+
+    /// A take from the first end on which something is.
+    fn take_any(&self, seat: Guard<'_>) -> Option<Ask> {
+        let mut ends = Vec::new(self.alloc);
+        for held in seat.ends {
+            if ends.push(held.end).is_err() {
+                return None;
+            }
+        }
+        Some(Ask::TakeAny(ends))
     }
 }
 
-/// How often it looks at its ends in vain before it leaves.
-const PATIENCE: usize = 10_000;
-
 impl Play for Firsts {
-    fn next(&mut self, seat: Guard<'_>, answer: Option<Answer>) -> Option<Wish> {
+    fn next(&mut self, seat: Guard<'_>, answer: Option<Answer>) -> Option<Ask> {
         match answer {
-            Some(Ok(Some(Msg::Int(number)))) => self.sum = self.sum.wrapping_add(number),
-            Some(Err(SeatRefusal::Waiting)) if self.turn < PATIENCE => {
-                self.turn = self.turn.saturating_add(1);
+            Some(
+                Ok(
+                    Outcome::Took {
+                        msg: Msg::Int(number),
+                        ..
+                    },
+                ),
+            ) => self.sum = self.sum.wrapping_add(number),
+            Some(Err(SeatRefusal::Waiting)) if self.patience > 0 => {
+                self.patience = self.patience.saturating_sub(1);
             }
             Some(Err(_)) => return None,
             _ => {}
         }
         for held in seat.ends {
             if seat.table.is_done(held.place) {
-                return Some(Wish::Close { end: held.end });
+                return Some(Ask::Step(Wish::Close { end: held.end }));
             }
         }
         if seat.ends.is_empty() {
             return None;
         }
-        // another end than the one on which nothing was
-        let held = seat.ends[self.turn % seat.ends.len()];
-        Some(Wish::Take { end: held.end })
+        self.take_any(seat)
     }
 }
 
@@ -67,7 +86,7 @@ connect quick v gives to slow w gets;
         let mut codes = Vec::new(rt.alloc());
         codes.push(None)?;
         codes.push(None)?;
-        codes.push(Some(Firsts::new()))?;
+        codes.push(Some(Firsts::new(rt.alloc())))?;
         let Ok(run) = run_codes(&rt, rt.alloc(), TWO, codes) else {
             return Err(Fail::from("no run"));
         };

@@ -2,7 +2,7 @@
 
 use sj_base::{EndId, Msg};
 use sj_seat::{Guard, Wish};
-use sj_seat_run::{Answer, Play};
+use sj_seat_run::{Answer, Ask, Play};
 
 /// Sends one number on the end, and leaves.
 #[derive(Drop)]
@@ -11,12 +11,12 @@ pub struct Leaver {
 }
 
 impl Play for Leaver {
-    fn next(&mut self, _seat: Guard<'_>, answer: Option<Answer>) -> Option<Wish> {
+    fn next(&mut self, _seat: Guard<'_>, answer: Option<Answer>) -> Option<Ask> {
         match answer {
-            None => Some(Wish::Send {
+            None => Some(Ask::Step(Wish::Send {
                 end: self.end,
                 msg: Msg::Int(5),
-            }),
+            })),
             Some(_) => None,
         }
     }

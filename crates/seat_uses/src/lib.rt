@@ -4,6 +4,7 @@
 mod clumsy;
 mod first;
 mod leaver;
+mod openers;
 mod runs;
 mod seller;
 mod talkers;
@@ -11,6 +12,7 @@ mod talkers;
 pub use clumsy::Clumsy;
 pub use first::Firsts;
 pub use leaver::Leaver;
+pub use openers::{Client, Server};
 pub use runs::{RunRefusal, run_codes};
 pub use seller::Seller;
 pub use talkers::{Customer, Talker};

@@ -2,7 +2,7 @@
 
 use sj_base::{EndId, Msg};
 use sj_seat::{Guard, SeatRefusal, Wish};
-use sj_seat_run::{Answer, Play};
+use sj_seat_run::{Answer, Ask, Outcome, Play};
 
 /// Takes how many things a customer wants, and answers whether there are as many.
 #[derive(Drop)]
@@ -14,23 +14,30 @@ pub struct Seller {
 }
 
 impl Play for Seller {
-    fn next(&mut self, seat: Guard<'_>, answer: Option<Answer>) -> Option<Wish> {
+    fn next(&mut self, seat: Guard<'_>, answer: Option<Answer>) -> Option<Ask> {
         let end = self.end;
         match answer {
-            None => Some(Wish::Take { end }),
-            Some(Ok(Some(Msg::Int(wanted)))) => {
+            None => Some(Ask::Step(Wish::Take { end })),
+            Some(
+                Ok(
+                    Outcome::Took {
+                        msg: Msg::Int(wanted),
+                        ..
+                    },
+                ),
+            ) => {
                 let enough = 0 <= wanted && wanted <= self.stock;
                 if enough {
                     self.stock = self.stock.saturating_sub(wanted);
                 }
                 let msg = Msg::Bool(enough);
-                Some(Wish::Send { end, msg })
+                Some(Ask::Step(Wish::Send { end, msg }))
             }
             // it was sent
-            Some(Ok(_)) if !seat.ends.is_empty() => Some(Wish::Close { end }),
+            Some(Ok(_)) if !seat.ends.is_empty() => Some(Ask::Step(Wish::Close { end })),
             Some(Err(SeatRefusal::Waiting)) if self.patience > 0 => {
                 self.patience = self.patience.saturating_sub(1);
-                Some(Wish::Take { end })
+                Some(Ask::Step(Wish::Take { end }))
             }
             Some(_) => None,
         }

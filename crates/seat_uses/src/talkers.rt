@@ -3,7 +3,7 @@
 use crate::Seller;
 use sj_base::{EndId, Msg};
 use sj_seat::{Guard, SeatRefusal, Wish};
-use sj_seat_run::{Answer, Play};
+use sj_seat_run::{Answer, Ask, Outcome, Play};
 
 /// Asks for a number of things, and learns whether there are as many.
 #[derive(Drop)]
@@ -16,22 +16,29 @@ pub struct Customer {
 }
 
 impl Play for Customer {
-    fn next(&mut self, seat: Guard<'_>, answer: Option<Answer>) -> Option<Wish> {
+    fn next(&mut self, seat: Guard<'_>, answer: Option<Answer>) -> Option<Ask> {
         let end = self.end;
         match answer {
-            None => Some(Wish::Send {
-                end,
-                msg: Msg::Int(self.wants),
-            }),
-            Some(Ok(Some(Msg::Bool(enough)))) => {
+            None => {
+                let msg = Msg::Int(self.wants);
+                Some(Ask::Step(Wish::Send { end, msg }))
+            }
+            Some(
+                Ok(
+                    Outcome::Took {
+                        msg: Msg::Bool(enough),
+                        ..
+                    },
+                ),
+            ) => {
                 self.enough = Some(enough);
-                Some(Wish::Close { end })
+                Some(Ask::Step(Wish::Close { end }))
             }
             // it was sent: the answer now
-            Some(Ok(_)) if !seat.ends.is_empty() => Some(Wish::Take { end }),
+            Some(Ok(_)) if !seat.ends.is_empty() => Some(Ask::Step(Wish::Take { end })),
             Some(Err(SeatRefusal::Waiting)) if self.patience > 0 => {
                 self.patience = self.patience.saturating_sub(1);
-                Some(Wish::Take { end })
+                Some(Ask::Step(Wish::Take { end }))
             }
             Some(_) => None,
         }
@@ -46,7 +53,7 @@ pub enum Talker {
 }
 
 impl Play for Talker {
-    fn next(&mut self, seat: Guard<'_>, answer: Option<Answer>) -> Option<Wish> {
+    fn next(&mut self, seat: Guard<'_>, answer: Option<Answer>) -> Option<Ask> {
         match self {
             Talker::Asks(customer) => customer.next(seat, answer),
             Talker::Answers(seller) => seller.next(seat, answer),

@@ -13,6 +13,6 @@ mod MovedLemmas
 mod OpeningLemmas
 mod PickLemmas
 mod RuleLemmas
-mod SessionLemmas
+pub mod SessionLemmas
 mod TakenLemmas
 mod WaitLemmas

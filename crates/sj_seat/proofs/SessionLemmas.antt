@@ -4,7 +4,6 @@ use Rattle.std.specs.Prelude.{IfSome, IsErrOf, is_none}
 use Rattle.sj_base.specs.declared.EndId.{EndId}
 use Rattle.sj_end.specs.Lines.{note_seen}
 use Rattle.sj_end.specs.declared.note.Event.TheVariants as events
-use Rattle.sj_end.specs.declared.note.Note.{Note}
 use Rattle.sj_lang.specs.FileAt.{FileAt}
 use Rattle.sj_lang.specs.Place.{Place}
 use Rattle.sj_node.specs.Calls.{call_of, silent}
@@ -40,6 +39,7 @@ use Rattle.sj_table.specs.declared.table.Table.{Table}
 use Rattle.sj_table.specs.Spots.{place_in}
 use Rattle.sj_seat.specs.Asked.{want_opening}
 use Rattle.sj_seat.specs.Logged.{OpenedLast, last_act, opening_end, opening_note}
+use Rattle.sj_seat.specs.NodeOpening.{Opens, note_opening}
 use Rattle.sj_seat.specs.Opened.{opened_at, spot_opened}
 use Rattle.sj_seat.specs.Went.{IsHaltOf, Keeps, SeatWork, held_up}
 use Rattle.sj_seat.specs.Wishes.{open_wished}
@@ -78,15 +78,6 @@ module _ (t : Table) (os : Openings) (bs : Ends) (wish : OpenWish) where
   opening_wants None h = tt
   opening_wants (Some s) h = openable_want os bs wish (place_in t s) (sym h)
 
--- what is noted, and which end is opened
-abbrev pub note_opening : Node → OpenWish → Note
-note_opening n (Request q m) = request_note n q
-note_opening n (Accept q m) = accept_note n q
-
-abbrev pub Opens : Node → OpenWish → EndId → Type 0
-Opens n (Request q m) e = e ≡ requested_by n
-Opens n (Accept q m) e = Some e ≡ accepted_by n q
-
 -- of a session that is accepted
 pub record IsFirst (n : Node) (from : ℕ) (e : EndId) : Type 0 where
   pub sess : ℕ
@@ -101,13 +92,13 @@ is_first n from e h = by (smallest (offers_of n from)) refl h
     by (Some s) least k = record { sess = s; least = least; end = cc }
 
 -- its note
-opening_noted : (n : Node) (wish : OpenWish) (place : Place) (e : EndId) → Opens n wish e → act_note n.party (node_at n) (want_opening place wish) ≡ Some (note_seen (note_opening n wish))
+pub opening_noted : (n : Node) (wish : OpenWish) (place : Place) (e : EndId) → Opens n wish e → act_note n.party (node_at n) (want_opening place wish) ≡ Some (note_seen (note_opening n wish))
 opening_noted n (Request q m) place e opens = refl
 opening_noted n (Accept q m) place e opens =
     let h = is_first n q e opens in
     ap (option_map (λ sess. logs.Accept sess q)) h.least ∙ sym (ap (λ o. Some (note_seen (accepted_note q o))) h.least)
 
-note_told : (n : Node) (wish : OpenWish) (e : EndId) → Opens n wish e → note_seen (note_opening n wish) ≡ opening_note wish e.sess
+pub note_told : (n : Node) (wish : OpenWish) (e : EndId) → Opens n wish e → note_seen (note_opening n wish) ≡ opening_note wish e.sess
 note_told n (Request q m) e opens = ap (λ (d : EndId). logs.Request d.sess q) (sym opens)
 note_told n (Accept q m) e opens =
     let h = is_first n q e opens in
@@ -119,7 +110,7 @@ end_told n (Accept q m) e opens = let h = is_first n q e opens in h.end ∙ ap (
 
 -- its row, at the code's party
 module _ (file : FileAt) (s : SeatedAt) (n : Node) where
-  opening_row : (wish : OpenWish) (place : Place) (e : EndId) (left : Worked Place (NodeAt Place Program)) → Opens n wish e → act_by (silent (length file.parties)) n.party (node_at n) (want_opening place wish) ≡ Some left
+  pub opening_row : (wish : OpenWish) (place : Place) (e : EndId) (left : Worked Place (NodeAt Place Program)) → Opens n wish e → act_by (silent (length file.parties)) n.party (node_at n) (want_opening place wish) ≡ Some left
       → act_by (seated_play file) n.party (with_player (seated s) (node_at n)) (want_opening place wish) ≡ Some (worked_player (seated (opened s e)) left)
   opening_row (Request q m) place e left opens row =
       requesting_played file n.party s (node_at n) place q ∙ ap (option_map (worked_player (seated (opened s (requested_by n))))) row

@@ -1,10 +1,12 @@
 pub mod Asked
+pub mod Asking
 pub mod Counted
 pub mod Fronts
 pub mod Holding
 pub mod Holdings
 pub mod Kinds
 pub mod Logged
+pub mod NodeOpening
 pub mod Opened
 pub mod Places
 pub mod Ready

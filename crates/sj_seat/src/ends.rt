@@ -62,7 +62,7 @@ fn moved_end(table: &Table, held: HeldEnd, end: EndId, way: Way, msg: Msg) -> He
 }
 
 /// Puts an end that was opened after the others, at its place. There is room for it.
-pub(crate) fn hold(table: &Table, ends: &mut Vec<HeldEnd>, end: EndId, place: Spot)
+pub fn hold(table: &Table, ends: &mut Vec<HeldEnd>, end: EndId, place: Spot)
     requires room { vec_len ends.old < vec_capacity ends.old }
     ensures { ends_at table.now ends.new.items
         ≡ ends_at table.now ends.old.items ++ (end, place_in table.now place) ∷ [] }

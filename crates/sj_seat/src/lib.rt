@@ -2,6 +2,7 @@
 #![tactic(auto)]
 
 mod again;
+mod ask;
 mod attend;
 mod calls;
 mod deeds;
@@ -22,7 +23,8 @@ mod starts;
 mod turns;
 mod wish;
 
-pub use ends::{HeldEnd, go_on};
+pub use ask::{Answer, Ask, Outcome};
+pub use ends::{HeldEnd, go_on, hold};
 pub use firsts::first_ends;
 pub use guards::Guard;
 pub use guest::Guest;
@@ -32,4 +34,4 @@ pub use laws::the_rules_are_the_guard;
 pub use openings::{Opening, Openings, party_openings};
 pub use places::carries_places;
 pub use refusal::SeatRefusal;
-pub use wish::{OpenWish, Wish};
+pub use wish::{OpenWish, OpenedSession, Wish};

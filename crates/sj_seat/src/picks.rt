@@ -3,6 +3,7 @@ ghost use Rattle.std.specs.Prelude.{◌≡◌, ◌∷◌, IfErr, IfOk, IfSome, L
 ghost use Rattle.sj_lang.specs.FileAt.{FileAt};
 ghost use Rattle.sj_node.specs.Node.{next_head};
 ghost use Rattle.sj_node.specs.Reading.{parties_of};
+ghost use Rattle.sj_seat.specs.Counted.{Counted};
 ghost use Rattle.sj_seat.specs.Logged.{TookLast};
 ghost use Rattle.sj_seat.specs.Ready.{IsAnyRefused, IsCutShort, IsNoneTaken, TookFirst, any_rule, first_there};
 ghost use Rattle.sj_seat.specs.Rules.{first_refusal, take_tests};
@@ -47,6 +48,7 @@ impl<O: OutLane, I: InLane, G: Gate> Guest<'_, O, I, G> {
             (Went O.OutLane I.InLane file rest rest self.old self.new) }
         ensures rests { OnErr result (Rests self.old self.new) }
         ensures keeps { Keeps (node_of self.old) (node_of self.new) }
+        ensures counts { Counted O.OutLane I.InLane (worker_of self.old) (worker_of self.new) }
 
         // It is from the first end on which a message is there, at once where one is there already.
         ensures took { IfOk result (λ r. TookLast (worker_of self.new) r.0 r.1) }
@@ -80,6 +82,7 @@ impl<O: OutLane, I: InLane, G: Gate> Guest<'_, O, I, G> {
             (Went O.OutLane I.InLane file rest rest self.old self.new) }
         ensures rests { OnErr result (Rests self.old self.new) }
         ensures keeps { Keeps (node_of self.old) (node_of self.new) }
+        ensures counts { Counted O.OutLane I.InLane (worker_of self.old) (worker_of self.new) }
         ensures took { IfOk result (λ r. TookLast (worker_of self.new) r.0 r.1) }
         ensures first { IfOk result (λ r.
             TookFirst O.OutLane I.InLane ends.now r.0 self.old self.new) }
@@ -108,6 +111,7 @@ impl<O: OutLane, I: InLane, G: Gate> Guest<'_, O, I, G> {
             (Went O.OutLane I.InLane file rest rest self.old self.new) }
         ensures rests { OnErr result (Rests self.old self.new) }
         ensures keeps { Keeps (node_of self.old) (node_of self.new) }
+        ensures counts { Counted O.OutLane I.InLane (worker_of self.old) (worker_of self.new) }
         ensures end { IfOk result (λ r. r.0 ≡ end) }
         ensures took { IfOk result (λ r. TookLast (worker_of self.new) end r.1) }
         ensures cause { IfErr result (λ r. IsCutShort r self.new) }

@@ -25,3 +25,10 @@ pub enum OpenWish {
     /// Accepts the next session that the party requested, as one of the protocol.
     Accept { party: u16, protocol: u16 },
 }
+
+/// A session that a builder's code opened, by its number, and the protocol as which it did.
+#[derive(Clone, Copy, Debug, PartialEq, Eq)]
+pub struct OpenedSession {
+    pub sess: u32,
+    pub protocol: u16,
+}

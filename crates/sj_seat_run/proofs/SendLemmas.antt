@@ -10,6 +10,7 @@ use Rattle.std.below.std_heap.proofs.GlobalAllocator.TheSendSync as frees
 use Rattle.sj_node.specs.contracts.node.Node as node
 use Rattle.sj_seat.proofs.ends.HeldEnd.TheSendSync as held
 use Rattle.sj_seat.proofs.openings.Openings.TheSendSync as openings
+use Rattle.sj_seat.proofs.wish.OpenedSession.TheSendSync as opened
 use Rattle.sj_seat.specs.contracts.guest.Guest as guest
 use Rattle.sj_table.specs.contracts.table.Table as table
 use Rattle.sj_work.proofs.SendLemmas.{worker_send}
@@ -24,7 +25,7 @@ module _ (a : NamedLft) (O I G : RattleType) (o : IsSend O) (i : IsSend I) (g : 
 
   module _ (C : RattleType) (c : IsSend C) where
     actor_send : IsSend (actor.the_row a O I G C)
-    actor_send = declared_send (actor.the_type a O I G C) (guest_send, (search sendable, tt))
+    actor_send = declared_send (actor.the_type a O I G C) (guest_send, (search sendable, (search (opened.the_send, opened.the_field_send, vec.the_send, global.the_send, frees.the_frees, sendable) depth 20, tt)))
 
     pub runner_send : IsSend (runner.the_row a O I G C)
     runner_send = variants_send (runner.enum a O I G C) ((worker_send O I o i n, tt), ((actor_send, tt), tt))

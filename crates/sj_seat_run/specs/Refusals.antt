@@ -14,6 +14,7 @@ use Rattle.sj_run.specs.Workers.{NoneStopped, SomeStopped, logs_in}
 use Rattle.sj_seat_laws.specs.SeatedPlay.{Player}
 use Rattle.sj_seat_laws.specs.SeatsStart.{Callers}
 use Rattle.sj_seat_told_laws.specs.SeatsHistory.{IsSeatsHistory}
+use Rattle.sj_seats.specs.Calls.{OpenedAs}
 use Rattle.sj_seats.specs.Replaying.{IsStop}
 use Rattle.sj_work.specs.declared.worker.Stop.TheVariants as stops
 use Rattle.sj_work.specs.declared.worker.Worker.{Worker}
@@ -43,12 +44,12 @@ IsEarly (refusals.Damaged m) = ⊥
 IsEarly refusals.Unfit = ⊥
 
 -- why lines aren't replayed: that is the first which isn't the one that is due
-abbrev pub IsOfReplay : FileAt → (seats : ℕ → Bool) → List LineAt → SeatedRefusal → Type 0
-IsOfReplay file seats lines (refusals.Damaged m) = IsStop (without_words file) seats lines m
-IsOfReplay file seats lines refusals.NoMemory = Unit {0}
-IsOfReplay file seats lines refusals.LacksPlace = ⊥
-IsOfReplay file seats lines refusals.LinkFault = ⊥
-IsOfReplay file seats lines refusals.Unfit = ⊥
+abbrev pub IsOfReplay : FileAt → (seats : ℕ → Bool) → OpenedAs → List LineAt → SeatedRefusal → Type 0
+IsOfReplay file seats opened lines (refusals.Damaged m) = IsStop (without_words file) seats opened lines m
+IsOfReplay file seats opened lines refusals.NoMemory = Unit {0}
+IsOfReplay file seats opened lines refusals.LacksPlace = ⊥
+IsOfReplay file seats opened lines refusals.LinkFault = ⊥
+IsOfReplay file seats opened lines refusals.Unfit = ⊥
 
 module _ {O I : Type 0} (outward : OutLane O) (inward : InLane I) (joined : O → I → Type 0) (file : FileAt) (looks : ℕ) (tells : Bool) (seats : ℕ → Bool) where
   -- the lines are the joined logs of workers that ran over such lanes, of which none stopped at a
@@ -59,14 +60,15 @@ module _ {O I : Type 0} (outward : OutLane O) (inward : InLane I) (joined : O �
     pub joins : IsJoined (logs_in workers) lines
 
   -- of such lines that is the first which isn't the one that is due, where the parties of the file
-  -- with a seat call what the lines tell
+  -- with a seat call what the lines tell, and open their sessions as these
   pub record IsDamageOver (m : Misfit) : Type 0 where
     pub workers : List (Worker O I)
     pub lines : List LineAt
     pub logged : HaveLogged workers lines
     pub seated : ℕ → Bool
     pub same : (p : ℕ) → p < length file.parties → seated p ≡ seats p
-    pub stop : IsStop (without_words file) seated lines m
+    pub opened : OpenedAs
+    pub stop : IsStop (without_words file) seated opened lines m
 
   -- such lines are a history, and some of the workers stopped as unfit
   pub record IsUnfitOver : Type 0 where

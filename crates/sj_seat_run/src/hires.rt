@@ -69,7 +69,12 @@ fn seat_for<'a, O: OutLane, I: InLane, G, C: Drop>(
         }
         Some(code) => {
             let guest = Guest::start(alloc, accepted, table, party, lanes, looks, gate)?;
-            Ok(Runner::Coded(Actor { guest, code }))
+            let opened = Vec::new(alloc);
+            Ok(Runner::Coded(Actor {
+                guest,
+                code,
+                opened,
+            }))
         }
     }
 }

@@ -13,6 +13,7 @@ mod teams;
 mod threads;
 mod turnout;
 
-pub use play::{Answer, Play};
+pub use play::Play;
 pub use refusal::SeatedRefusal;
 pub use runs::{SeatedRun, run_seated};
+pub use sj_seat::{Answer, Ask, Outcome};

@@ -8,9 +8,10 @@ ghost use Rattle.sj_work.specs.Worked.{Worked, kept_stop};
 use crate::play::Play;
 use crate::runners::{Actor, Runner};
 use crate::turnout::Turnout;
+use sj_base::EndId;
 use sj_lane::{InLane, OutLane};
 use sj_run::calls_compose;
-use sj_seat::{Guest, SeatRefusal};
+use sj_seat::{Answer, Ask, Guest, OpenWish, OpenedSession, Outcome, SeatRefusal};
 use sj_work::{Gate, Stop, Worker, work};
 use std::thread;
 
@@ -63,20 +64,51 @@ fn work_beside<O: OutLane, I: InLane, G: Gate>(
     let _ = work(worker, looks, gate);
 }
 
+/// The session of that end, as the code opened it.
+fn opened_as(wish: OpenWish, end: EndId) -> OpenedSession {
+    let sess = end.sess;
+    match wish {
+        OpenWish::Request { protocol, .. } => OpenedSession { sess, protocol },
+        OpenWish::Accept { protocol, .. } => OpenedSession { sess, protocol },
+    }
+}
+
+/// Does what the code asks for, and lists the session that it opened, if any.
+fn do_ask<O: OutLane, I: InLane, G: Gate>(
+    guest: &mut Guest<'_, O, I, G>,
+    opened: &mut Vec<OpenedSession>,
+    ask: &Ask,
+) -> Answer
+    ensures { Played O.OutLane I.InLane guest.old guest.new }
+{
+    if opened.reserve(1).is_err() {
+        return Err(SeatRefusal::NoMemory);
+    }
+    let told = guest.ask(ask);
+    if let (Ask::Open(wish), Ok(Outcome::Opened { end })) = (ask, told) {
+        opened.push_reserved(opened_as(*wish, end));
+    }
+    told
+}
+
 /// What the code asks for is done, and it is told of each answer, until it asks for nothing more, or
 /// the worker has stopped for good.
-fn play_out<O: OutLane, I: InLane, G: Gate, C: Play>(guest: &mut Guest<'_, O, I, G>, code: &mut C)
+fn play_out<O: OutLane, I: InLane, G: Gate, C: Play>(
+    guest: &mut Guest<'_, O, I, G>,
+    code: &mut C,
+    opened: &mut Vec<OpenedSession>,
+)
     ensures { Played O.OutLane I.InLane guest.old guest.new }
 {
     let mut answer = None;
     for _ in 0..u64::MAX {
-        let Some(wish) = code.next(guest.guard(), answer) else {
+        let Some(ask) = code.next(guest.guard(), answer) else {
             return;
         };
         if stays(guest.worker().stop()) {
             return;
         }
-        let told = guest.perform(wish);
+        let told = do_ask(guest, opened, &ask);
         if told == Err(SeatRefusal::Waiting) {
             thread::yield_now();
         }
@@ -134,7 +166,7 @@ fn play_beside<O: OutLane, I: InLane, G: Gate, C: Play>(
     ensures { Played O.OutLane I.InLane actor.old.guest actor.new.guest }
 {
     wait_for_all(turnout);
-    play_out(&mut actor.guest, &mut actor.code);
+    play_out(&mut actor.guest, &mut actor.code, &mut actor.opened);
     turnout.end();
     if !stays(actor.guest.worker().stop()) {
         attend_beside(&mut actor.guest, turnout, looks);

@@ -8,14 +8,16 @@ use crate::runners::Runner;
 use sj_base::NoMemory;
 use sj_end::Entry;
 use sj_lane::{InLane, Lanes, OutLane};
+use sj_seat::OpenedSession;
 use sj_work::Worker;
 use std::alloc::Global;
 
-/// The workers of the parties, and the codes of those that have one.
+/// The workers of the parties, the codes of those that have one, and the sessions that each opened.
 #[derive(Drop)]
 pub(crate) struct Parties<O, I, C> {
     pub workers: Vec<Worker<O, I>>,
     pub codes: Vec<Option<C>>,
+    pub opened: Vec<Vec<OpenedSession>>,
 }
 
 /// The lanes and the logs of workers, in order.
@@ -35,12 +37,18 @@ pub(crate) fn stand_up<O: OutLane, I: InLane, G, C: Drop>(
 {
     let mut workers = Vec::new(alloc);
     let mut codes = Vec::new(alloc);
+    let mut opened = Vec::new(alloc);
     for runner in runners {
-        let (worker, code) = runner.into_parts();
+        let (worker, code, own) = runner.into_parts(alloc);
         workers.push(worker)?;
         codes.push(code)?;
+        opened.push(own)?;
     }
-    Ok(Parties { workers, codes })
+    Ok(Parties {
+        workers,
+        codes,
+        opened,
+    })
 }
 
 /// The workers' lanes and logs.

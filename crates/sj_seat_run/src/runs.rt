@@ -8,6 +8,7 @@ ghost use Rattle.sj_lang.specs.FileView.{file_of};
 ghost use Rattle.sj_plain.specs.Kept.{without_words};
 ghost use Rattle.sj_seat_told_laws.specs.SeatsHistory.{IsSeatsHistory};
 ghost use Rattle.sj_seat.specs.Places.{CarriesPlaces};
+ghost use Rattle.sj_seats.specs.Openings.{opened_by};
 ghost use Rattle.sj_seats.specs.Seated.{callers_of, core_of, history_of, kept_file, party_count, seats_of};
 ghost use Rattle.sj_table.specs.Spots.{start_in};
 ghost use Rattle.sj_seat_run.specs.Logged.{AreLoggedBy};
@@ -24,7 +25,7 @@ use sj_check::Accepted;
 use sj_core::join_logs;
 use sj_end::Line;
 use sj_lane::Links;
-use sj_seat::seat_table;
+use sj_seat::{OpenedSession, seat_table};
 use sj_seats::SeatedWorld;
 use sj_table::Table;
 use sj_work::{Gate, Stop};
@@ -52,12 +53,14 @@ fn table_for(alloc: Global, accepted: &Accepted) -> Result<Table, SeatedRefusal>
     }
 }
 
-/// The world to which the lines lead, where these parties have codes.
+/// The world to which the lines lead, where these parties have codes, which opened their sessions
+/// so.
 fn seated_world<C>(
     alloc: Global,
     accepted: &Accepted,
     table: &Table,
     codes: &[Option<C>],
+    opened: Vec<Vec<OpenedSession>>,
     lines: Vec<Line>,
 ) -> Result<SeatedWorld, SeatedRefusal>
     requires starts { (p : ℕ) → start_in table.now p
@@ -70,10 +73,10 @@ fn seated_world<C>(
     ensures run { IfOk result (λ w. IsSeatsHistory max (kept_file w) (callers_of w) (history_of w) (core_of w)) }
     ensures parties { IfOk result (λ w. party_count w ≡ length (kept_file w).parties) }
     ensures cause { IfErr result (IsOfReplay (file_of (held accepted.now)) (seats_by codes.now)
-        (map line_at lines.items)) }
+        (opened_by opened.items) (map line_at lines.items)) }
 {
     let seats = seats_of(alloc, codes)?;
-    match SeatedWorld::replayed(alloc, accepted, table, &seats, lines) {
+    match SeatedWorld::replayed(alloc, accepted, table, &seats, opened, lines) {
         Ok(world) => Ok(world),
         Err(refusal) => Err(SeatedRefusal::from(refusal)),
     }
@@ -127,6 +130,7 @@ pub fn run_seated<R: Threads + Sync, L: Links, G: Gate, C: Play + Send + Drop>(
     let parties = run_all(rt, alloc, accepted, &table, codes, looks, links, gate)?;
     let workers = parties.workers;
     let codes = parties.codes;
+    let opened = parties.opened;
     let faulty = any_stopped(&workers, Stop::Fault);
     let unfit = any_stopped(&workers, Stop::Unfit);
     let short = any_stopped(&workers, Stop::NoMemory);
@@ -136,7 +140,7 @@ pub fn run_seated<R: Threads + Sync, L: Links, G: Gate, C: Play + Send + Drop>(
     if faulty {
         return Err(SeatedRefusal::LinkFault);
     }
-    let world = match seated_world(alloc, accepted, &table, &codes, lines) {
+    let world = match seated_world(alloc, accepted, &table, &codes, opened, lines) {
         Ok(world) => world,
         Err(refusal) => return Err(refusal),
     };

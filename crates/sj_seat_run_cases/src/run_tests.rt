@@ -1,12 +1,12 @@
 //! Small files with parties that are played by code, beside parties that go by the file, over rings.
 
-use crate::script::Script;
+use crate::script::{Line, Script};
 use sj_base::{EndId, Msg};
 use sj_check::{Accepted, check};
 use sj_lane::RingLinks;
 use sj_party::parse_file;
 use sj_proto::Tokens;
-use sj_seat::Wish;
+use sj_seat::{OpenWish, SeatRefusal, Wish};
 use sj_seat_run::{SeatedRun, run_seated};
 use sj_work::NoGate;
 use std::alloc::Global;
@@ -45,14 +45,23 @@ fn accepted(alloc: Global, text: &[u8]) -> Result<Accepted, Fail> {
 }
 
 fn script(alloc: Global, wishes: &[Wish]) -> Result<Option<Script>, Fail> {
-    let mut all = Vec::new(alloc);
-    all.extend_from_slice(wishes)?;
-    Ok(Some(Script {
-        wishes: all,
+    let mut lines = Vec::new(alloc);
+    for wish in wishes {
+        lines.push(Line::Step(*wish))?;
+    }
+    Ok(Some(script_of(alloc, lines)))
+}
+
+fn script_of(alloc: Global, lines: Vec<Line>) -> Script {
+    Script {
+        alloc,
+        lines,
         took: Vec::new(alloc),
+        opened: Vec::new(alloc),
+        refused: Vec::new(alloc),
         done: 0,
         patience: 10_000,
-    }))
+    }
 }
 
 /// A run of the shop, with these codes, to where nobody can go on.
@@ -62,10 +71,20 @@ fn shop<R: Threads + Sync>(
     buyer: Option<Script>,
     seller: Option<Script>,
 ) -> Result<SeatedRun<Script>, Fail> {
-    let accepted = accepted(alloc, SHOP)?;
     let mut codes = Vec::new(alloc);
     codes.push(buyer)?;
     codes.push(seller)?;
+    run_of(rt, alloc, SHOP, codes)
+}
+
+/// A run of the file, with these codes, to where nobody can go on.
+fn run_of<R: Threads + Sync>(
+    rt: &R,
+    alloc: Global,
+    text: &[u8],
+    codes: Vec<Option<Script>>,
+) -> Result<SeatedRun<Script>, Fail> {
+    let accepted = accepted(alloc, text)?;
     let mut links = RingLinks::new();
     let Ok(mut run) = run_seated(rt, alloc, &accepted, codes, 100, &mut links, &NoGate) else {
         return Err(Fail::from("no run"));
@@ -142,5 +161,130 @@ fn code_leaves_with_an_end_open(rt: HostRuntime) -> Result<(), Fail> {
     };
     assert_eq!(rt; ends.len(), 1);
     assert_eq!(rt; run.world.ends(1).is_none(), true);
+    Ok(())
+}
+
+// A party that asks another one for a number, by a session that it opens; and one that takes from two.
+const CALLS: &[u8] = b"protocol asks { begin.?(int) }
+protocol tells { begin.!<int> }
+party client { request x asks to server; recv x n int; close x; }
+party server { accept y tells from client; send y 7; close y; }
+";
+
+/// The client's end of the session that it opens first, and the server's.
+const OWN: EndId = EndId { sess: 64, side: 0 };
+
+const OTHER: EndId = EndId { sess: 64, side: 1 };
+
+/// A client that is played by code.
+fn client(alloc: Global) -> Result<Option<Script>, Fail> {
+    let mut lines = Vec::new(alloc);
+    lines.extend_from_slice(&[
+        Line::Open(OpenWish::Accept {
+            party: 1,
+            protocol: 0,
+        }),
+        Line::Open(OpenWish::Request {
+            party: 1,
+            protocol: 0,
+        }),
+        Line::Step(Wish::Take { end: OWN }),
+        Line::Step(Wish::Close { end: OWN }),
+    ])?;
+    Ok(Some(script_of(alloc, lines)))
+}
+
+/// A server that is played by code.
+fn server(alloc: Global) -> Result<Option<Script>, Fail> {
+    let mut lines = Vec::new(alloc);
+    lines.extend_from_slice(&[
+        Line::Open(OpenWish::Accept {
+            party: 0,
+            protocol: 1,
+        }),
+        Line::Step(Wish::Send {
+            end: OTHER,
+            msg: Msg::Int(9),
+        }),
+        Line::Step(Wish::Close { end: OTHER }),
+    ])?;
+    Ok(Some(script_of(alloc, lines)))
+}
+
+#[test]
+fn code_requests_a_session_of_a_party_of_the_file(rt: HostRuntime) -> Result<(), Fail> {
+    let alloc = rt.alloc();
+    let mut codes = Vec::new(alloc);
+    codes.push(client(alloc)?)?;
+    let run = run_of(&rt, alloc, CALLS, codes)?;
+    let Some(Some(client)) = run.codes.get(0) else {
+        return Err(Fail::from("no code"));
+    };
+    assert_eq!(rt; client.opened.get(0).copied(), Some(OWN));
+    assert_eq!(rt;
+        client.refused.get(0).copied(),
+        Some(SeatRefusal::NotOpened)
+    );
+    assert_eq!(rt; client.took.get(0).copied(), Some(Msg::Int(7)));
+    Ok(())
+}
+
+#[test]
+fn code_accepts_a_session_of_a_party_of_the_file(rt: HostRuntime) -> Result<(), Fail> {
+    let alloc = rt.alloc();
+    let mut codes = Vec::new(alloc);
+    codes.push(None)?;
+    codes.push(server(alloc)?)?;
+    let run = run_of(&rt, alloc, CALLS, codes)?;
+    let Some(Some(server)) = run.codes.get(1) else {
+        return Err(Fail::from("no code"));
+    };
+    assert_eq!(rt; server.opened.get(0).copied(), Some(OTHER));
+    assert_eq!(rt; server.done, 3);
+    Ok(())
+}
+
+#[test]
+fn one_code_requests_and_the_other_accepts(rt: HostRuntime) -> Result<(), Fail> {
+    let alloc = rt.alloc();
+    let mut codes = Vec::new(alloc);
+    codes.push(client(alloc)?)?;
+    codes.push(server(alloc)?)?;
+    let run = run_of(&rt, alloc, CALLS, codes)?;
+    assert_eq!(rt; took(&run, 0).get(0).copied(), Some(Msg::Int(9)));
+    assert_eq!(rt; run.world.parties(), 2);
+    let Some(ends) = run.world.ends(0) else {
+        return Err(Fail::from("no code"));
+    };
+    assert_eq!(rt; ends.len(), 0);
+    Ok(())
+}
+
+// A party that is sent a number by each of two others.
+const TWO: &[u8] = b"protocol gives { begin.!<int> }
+protocol gets { begin.?(int) }
+party one { send x 3; close x; }
+party other { send y 4; close y; }
+party seat { recv u n int; recv z m int; close u; close z; }
+connect one x gives to seat u gets;
+connect other y gives to seat z gets;
+";
+
+#[test]
+fn code_takes_from_whichever_end_is_first(rt: HostRuntime) -> Result<(), Fail> {
+    let alloc = rt.alloc();
+    let later = EndId { sess: 1, side: 1 };
+    let mut lines = Vec::new(alloc);
+    lines.extend_from_slice(&[Line::Either(later, Y), Line::Step(Wish::Close { end: Y })])?;
+    let mut codes = Vec::new(alloc);
+    codes.push(None)?;
+    codes.push(None)?;
+    codes.push(Some(script_of(alloc, lines)))?;
+    let run = run_of(&rt, alloc, TWO, codes)?;
+    let Some(Some(code)) = run.codes.get(2) else {
+        return Err(Fail::from("no code"));
+    };
+    assert_eq!(rt; code.took.len(), 1);
+    assert_eq!(rt; code.done, 2);
     Ok(())
 }

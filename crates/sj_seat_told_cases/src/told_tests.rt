@@ -90,7 +90,8 @@ fn seated_world(
     let Some(table) = seat_table(alloc, accepted)? else {
         return Err(Fail::from("no table"));
     };
-    let Ok(mut world) = SeatedWorld::replayed(alloc, accepted, &table, &seats, lines) else {
+    let opened = Vec::new(alloc);
+    let Ok(mut world) = SeatedWorld::replayed(alloc, accepted, &table, &seats, opened, lines) else {
         return Err(Fail::from("a misfit"));
     };
     world.drain()?;

@@ -18,7 +18,7 @@ use Rattle.sj_rules.specs.Log.{LineAt}
 use Rattle.sj_rules.specs.World.{Deliver}
 use Rattle.sj_seat_laws.specs.Calls.{Call}
 use Rattle.sj_table.specs.declared.table.Table.{Table}
-use Rattle.sj_seats.specs.Calls.{call_of_event, first_calls}
+use Rattle.sj_seats.specs.Calls.{OpenedAs, call_of_event, first_calls}
 use Rattle.sj_seats.specs.Core.{AreOver, chair_of, is_seat, seat_by, seats_by}
 use Rattle.sj_seats.specs.declared.played.Chair.{Chair}
 
@@ -57,14 +57,14 @@ if_none false = refl
 pub seats_calling : (t : Table) (chairs : List (Option Chair)) (calls more : ℕ → List Call) → ((q : ℕ) → calls q ≡ more q) → (q : ℕ) → seats_by t chairs calls q ≡ seats_by t chairs more q
 seats_calling t chairs calls more same q = ap (λ (cs : List Call). option_map (seat_by t cs) (chair_of chairs q)) (same q)
 
-module _ (l : LineAt) (rest : ℕ → List Call) where
+module _ (opened : OpenedAs) (l : LineAt) (rest : ℕ → List Call) where
   -- a delivery tells none
-  pub none_delivered : (from : ℕ) → l.entry.event ≡ Deliver from → (q : ℕ) → first_calls l rest q ≡ rest q
-  none_delivered from is q = ap (λ (cs : List Call). cs ++ rest q) (ap (λ ev. if q == l.party then call_of_event ev l.entry.note else []) is ∙ if_none (q == l.party))
+  pub none_delivered : (from : ℕ) → l.entry.event ≡ Deliver from → (q : ℕ) → first_calls opened l rest q ≡ rest q
+  none_delivered from is q = ap (λ (cs : List Call). cs ++ rest q) (ap (λ ev. if q == l.party then call_of_event (opened q) ev l.entry.note else []) is ∙ if_none (q == l.party))
 
   -- an act tells none of other parties
-  pub none_of_others : (q : ℕ) → q ≢ l.party → first_calls l rest q ≡ rest q
-  none_of_others q apart = ap (λ (b : Bool). (if b then call_of_event l.entry.event l.entry.note else []) ++ rest q) (apart_eqb q l.party apart)
+  pub none_of_others : (q : ℕ) → q ≢ l.party → first_calls opened l rest q ≡ rest q
+  none_of_others q apart = ap (λ (b : Bool). (if b then call_of_event (opened q) l.entry.event l.entry.note else []) ++ rest q) (apart_eqb q l.party apart)
 
 -- nobody's code plays the party
 pub no_seat : (chairs : List (Option Chair)) (p : ℕ) → is_seat chairs p ≡ false → chair_of chairs p ≡ None
@@ -75,13 +75,13 @@ no_seat chairs p none = by (chair_of chairs p) refl none
     by (Some c) is h = absurd (cc h)
 
 -- the act of a party that goes by the file tells no call of a code
-pub none_by_file : (t : Table) (chairs : List (Option Chair)) (l : LineAt) (rest : ℕ → List Call) → chair_of chairs l.party ≡ None → (q : ℕ) → seats_by t chairs (first_calls l rest) q ≡ seats_by t chairs rest q
-none_by_file t chairs l rest none q =
+pub none_by_file : (opened : OpenedAs) (t : Table) (chairs : List (Option Chair)) (l : LineAt) (rest : ℕ → List Call) → chair_of chairs l.party ≡ None → (q : ℕ) → seats_by t chairs (first_calls opened l rest) q ≡ seats_by t chairs rest q
+none_by_file opened t chairs l rest none q =
     elim (eqb_tells q l.party) [
       | inl s ↦
           (let it : chair_of chairs q ≡ None = ap (chair_of chairs) s.1 ∙ none in
-          ap (option_map (seat_by t (first_calls l rest q))) it ∙ sym (ap (option_map (seat_by t (rest q))) it))
-      | inr s ↦ ap (λ (cs : List Call). option_map (seat_by t cs) (chair_of chairs q)) (none_of_others l rest q s.1)
+          ap (option_map (seat_by t (first_calls opened l rest q))) it ∙ sym (ap (option_map (seat_by t (rest q))) it))
+      | inr s ↦ ap (λ (cs : List Call). option_map (seat_by t cs) (chair_of chairs q)) (none_of_others opened l rest q s.1)
     ]
 
 -- a node that did an event, and whose entry was taken out of its log, is over the same table

@@ -37,10 +37,10 @@ use Rattle.sj_seats.proofs.RunLemmas.{short}
 -- ---- all is as before
 
 pub keeps_none : (c : PlayedWorld) → Keeps c c
-keeps_none c = record { file = refl; table = refl; seats = λ q. refl; count = refl }
+keeps_none c = record { file = refl; table = refl; opened = refl; seats = λ q. refl; count = refl }
 
 pub keeps_later : (a b c : PlayedWorld) → Keeps a b → Keeps b c → Keeps a c
-keeps_later a b c x y = record { file = y.file ∙ x.file; table = y.table ∙ x.table; seats = λ q. y.seats q ∙ x.seats q; count = y.count ∙ x.count }
+keeps_later a b c x y = record { file = y.file ∙ x.file; table = y.table ∙ x.table; opened = y.opened ∙ x.opened; seats = λ q. y.seats q ∙ x.seats q; count = y.count ∙ x.count }
 
 pub rests_none : (c : PlayedWorld) → HasParties c → Rests c c
 rests_none c parties = record { world = λ rest. refl; parties = parties; keeps = keeps_none c }

@@ -24,7 +24,7 @@ use Rattle.sj_semantics.specs.Program.{Program}
 use Rattle.sj_table.specs.declared.table.Table.{Table}
 use Rattle.sj_seats.specs.Calls.{callers_by, first_calls, then_calls}
 use Rattle.sj_seats.specs.Core.{AreOver, chair_of, core_by, is_seat, played, seats_by}
-use Rattle.sj_seats.specs.Played.{HasParties, IsLed, IsLedBy, IsReached, Keeps, Redoes, Rests, callers_in, chairs_in, core_in, file_in, history_in, nodes_in}
+use Rattle.sj_seats.specs.Played.{HasParties, IsLed, IsLedBy, IsReached, Keeps, Redoes, Rests, callers_in, chairs_in, core_in, file_in, history_in, nodes_in, opened_in}
 use Rattle.sj_seats.specs.declared.played.Chair.{Chair}
 use Rattle.sj_seats.specs.declared.played.PlayedWorld.{PlayedWorld}
 use Rattle.sj_seats.proofs.ChairLemmas.{no_seat, none_by_file, none_delivered, seats_calling}
@@ -50,6 +50,7 @@ pub record Beside (c d : PlayedWorld) : Type 0 where
   pub file : file_in d ≡ file_in c
   pub table : d.table ≡ c.table
   pub chairs : chairs_in d ≡ chairs_in c
+  pub opened : opened_in d ≡ opened_in c
 
 module _ (c d : PlayedWorld) (beside : Beside c d) where
   pub core_is : (rest : ℕ → List Call) → core_by (file_in c) c.table (nodes_in d) (chairs_in c) rest ≡ core_in d rest
@@ -68,6 +69,7 @@ module _ (c d : PlayedWorld) (beside : Beside c d) where
     keeps = record {
       file = beside.file;
       table = beside.table;
+      opened = beside.opened;
       seats = λ q. ap (λ (cs : List (Option Chair)). is_seat cs q) beside.chairs;
       count = seats.count ∙ sym old.seats.count;
     }
@@ -94,7 +96,7 @@ module _ (c d : PlayedWorld) (beside : Beside c d) where
     event_is : line.entry.event ≡ event_at event
     event_is = due_event (play_of (file_in c)) max w p (event_at event) line moves.line
 
-    by_lift : ((rest : ℕ → List Call) (q : ℕ) → who (first_calls line rest) q ≡ who rest q)
+    by_lift : ((rest : ℕ → List Call) (q : ℕ) → who (first_calls (opened_in c) line rest) q ≡ who rest q)
         → ((rest : ℕ → List Call) → happens (seated_play (file_in c)) max (played (who rest) w) p (event_at event) ≡ option_map (played (who rest)) (happens (play_of (file_in c)) max w p (event_at event)))
         → ((rest : ℕ → List Call) → event_note (seated_play (file_in c)) (played (who rest) w) p (event_at event) ≡ event_note (play_of (file_in c)) w p (event_at event))
         → Redoes c line d
@@ -115,7 +117,7 @@ delivery_redoes c d beside p q e moves old over =
     let w = world_by (file_in c) (nodes_in c) in
     let is = due_event (play_of (file_in c)) max w p (Deliver q) (line_with p e) moves.line in
     by_lift c d beside p (events.Deliver q) e moves old over
-    (λ rest r. seats_calling c.table (chairs_in c) (first_calls (line_with p e) rest) rest (none_delivered (line_with p e) rest q is) r)
+    (λ rest r. seats_calling c.table (chairs_in c) (first_calls (opened_in c) (line_with p e) rest) rest (none_delivered (opened_in c) (line_with p e) rest q is) r)
     (λ rest. delivery_played (file_in c) (seats_by c.table (chairs_in c) rest) w p q)
     (λ rest. refl)
 
@@ -126,14 +128,11 @@ act_redoes c d beside p e own moves old over =
     let none = no_seat (chairs_in c) p own in
     let nobody : (rest : ℕ → List Call) → seats_by c.table (chairs_in c) rest p ≡ None = λ rest. ap (option_map (Rattle.sj_seats.specs.Core.seat_by c.table (rest p))) none in
     by_lift c d beside p events.Act e moves old over
-    (λ rest. none_by_file c.table (chairs_in c) (line_with p e) rest none)
+    (λ rest. none_by_file (opened_in c) c.table (chairs_in c) (line_with p e) rest none)
     (λ rest. act_played (file_in c) (seats_by c.table (chairs_in c) rest) w p (nobody rest))
     (λ rest. act_noted (file_in c) (seats_by c.table (chairs_in c) rest) w p (nobody rest))
 
 -- ---- what leads on
-
-abbrev Leading : List LineAt → (ℕ → List Call) → WorldAt Place Player → (ℕ → Bool) → FileAt → Type 0
-Leading lines rest core seats file = IsSeatsHistory max file (callers_by seats (then_calls lines rest)) lines core
 
 -- one line more
 pub led_on : (c d : PlayedWorld) (past : List LineAt) (l : LineAt) → IsLedBy c past → Redoes c l d → IsLedBy d (past ++ l ∷ [])
@@ -141,11 +140,12 @@ led_on c d past l led redone = record {
   accepted = subst IsOfAccepted (sym redone.keeps.file) led.accepted;
   parties = redone.parties;
   run = λ rest.
-      let more : IsLog (seated_play (file_in c)) max (seats_core (file_in c) (callers_in c past (first_calls l rest))) (past ++ l ∷ []) (core_in d rest) =
-      log_more (seated_play (file_in c)) max (seats_core (file_in c) (callers_in c past (first_calls l rest))) (core_in c (first_calls l rest)) (core_in d rest) past l
-      (led.run (first_calls l rest)) (redone.step rest) (redone.due_line rest) in
-      let calls : callers_in c past (first_calls l rest) ≡ callers_in d (past ++ l ∷ []) rest =
-      λ i q. callers_by (λ r. sym (redone.keeps.seats r) i) (λ r. then_more past l rest r i) q in
+      let more : IsLog (seated_play (file_in c)) max (seats_core (file_in c) (callers_in c past (first_calls (opened_in c) l rest))) (past ++ l ∷ []) (core_in d rest) =
+      log_more (seated_play (file_in c)) max (seats_core (file_in c) (callers_in c past (first_calls (opened_in c) l rest))) (core_in c (first_calls (opened_in c) l rest)) (core_in d rest) past l
+      (led.run (first_calls (opened_in c) l rest)) (redone.step rest) (redone.due_line rest) in
+      let calls : callers_in c past (first_calls (opened_in c) l rest) ≡ callers_in d (past ++ l ∷ []) rest =
+      (λ i q. callers_by (is_seat (chairs_in c)) (λ r. then_more (opened_in c) past l rest r i) q)
+      ∙ (λ i q. callers_by (λ r. sym (redone.keeps.seats r) i) (then_calls (sym redone.keeps.opened i) (past ++ l ∷ []) rest) q) in
       subst (λ (f : FileAt). IsSeatsHistory max f (callers_in d (past ++ l ∷ []) rest) (past ++ l ∷ []) (core_in d rest)) (sym redone.keeps.file)
       (subst (λ (cs : Callers). IsSeatsHistory max (file_in c) cs (past ++ l ∷ []) (core_in d rest)) calls more);
 }
@@ -156,7 +156,7 @@ led_still c d past led rests = record {
   accepted = subst IsOfAccepted (sym rests.keeps.file) led.accepted;
   parties = rests.parties;
   run = λ rest.
-      let calls : callers_in c past rest ≡ callers_in d past rest = λ i q. callers_by (λ r. sym (rests.keeps.seats r) i) (then_calls past rest) q in
+      let calls : callers_in c past rest ≡ callers_in d past rest = λ i q. callers_by (λ r. sym (rests.keeps.seats r) i) (then_calls (sym rests.keeps.opened i) past rest) q in
       subst (λ (f : FileAt). IsSeatsHistory max f (callers_in d past rest) past (core_in d rest)) (sym rests.keeps.file)
       (subst (λ (cs : Callers). IsSeatsHistory max (file_in c) cs past (core_in d rest)) calls
       (subst (λ (w : WorldAt Place Player). IsSeatsHistory max (file_in c) (callers_in c past rest) past w) (sym (rests.world rest)) (led.run rest)));

@@ -5,7 +5,10 @@ mod ShortLemmas
 mod ChairLemmas
 mod GoingLemmas
 mod CalledLemmas
+mod MakingLemmas
 mod CallingLemmas
+mod SessionLemmas
+mod SittingLemmas
 mod RunLemmas
 mod DrainLemmas
 mod ListingLemmas

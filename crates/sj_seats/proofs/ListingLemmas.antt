@@ -11,7 +11,7 @@ use Rattle.sj_seat.specs.Places.{CarriesPlaces}
 use Rattle.sj_table.specs.declared.table.Table.{Table}
 use Rattle.sj_seats.specs.Core.{AreOver, core_by, is_seat}
 use Rattle.sj_seats.specs.Draining.{AreIdle, Goes, HasNoLane, IsQuiet}
-use Rattle.sj_seats.specs.Played.{HasParties, IsIdle, IsLedBy, IsReached, IsStill, Redoes, Rests, chairs_in, file_in, history_in, nodes_in}
+use Rattle.sj_seats.specs.Played.{HasParties, IsIdle, IsLedBy, IsReached, IsStill, Redoes, Rests, chairs_in, file_in, history_in, nodes_in, opened_in}
 use Rattle.sj_seats.specs.declared.played.Chair.{Chair}
 use Rattle.sj_seats.specs.declared.played.PlayedWorld.{PlayedWorld}
 use Rattle.sj_seats.proofs.GoingLemmas.{led_on, led_still}
@@ -23,6 +23,7 @@ pub record Relists (c d : PlayedWorld) : Type 0 where
   pub table : d.table ≡ c.table
   pub nodes : nodes_in d ≡ nodes_in c
   pub chairs : chairs_in d ≡ chairs_in c
+  pub opened : opened_in d ≡ opened_in c
 
 pub rests_listed : (c d : PlayedWorld) → HasParties c → Relists c d → Rests c d
 rests_listed c d parties same = record {
@@ -33,7 +34,7 @@ rests_listed c d parties same = record {
     carries = subst CarriesPlaces (sym same.table) parties.carries;
     count = ap length same.chairs ∙ parties.count ∙ sym (ap length same.nodes);
   };
-  keeps = record { file = same.file; table = same.table; seats = λ q. ap (λ (cs : List (Option Chair)). is_seat cs q) same.chairs; count = ap length same.nodes };
+  keeps = record { file = same.file; table = same.table; opened = same.opened; seats = λ q. ap (λ (cs : List (Option Chair)). is_seat cs q) same.chairs; count = ap length same.nodes };
 }
 
 -- the list is the same, too, as far as contracts see

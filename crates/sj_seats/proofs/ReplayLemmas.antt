@@ -1,20 +1,24 @@
 -- Lines that are done again one by one, and become the history.
-use Rattle.std.proofs.Common.{◌≡◌, ℕ, ◌+◌, ◌<◌, ◌≤◌, max, Bool, List, [], ◌∷◌, ◌++◌, map, length, take, drop, get_or, Some, ap, sym, ◌∙◌, subst, arith}
+use Rattle.std.proofs.Common.{◌≡◌, ℕ, ◌+◌, ◌<◌, ◌≤◌, max, Bool, List, [], ◌∷◌, ◌++◌, map, length, take, drop, get_or, Option, Some, None, Result, IfOk, ap, sym, ◌∙◌, subst, arith}
+use Rattle.std.specs.Prelude.{IfSome}
 use Rattle.std.proofs.lemmas.List.{length-map, length-take-le, map-append, take_all}
 use Rattle.sj_core.proofs.ReplayLemmas.{next_taken, split_there}
-use Rattle.sj_core.specs.Views.{line_at}
+use Rattle.sj_core.specs.Views.{line_at, line_with}
 use Rattle.sj_core.specs.declared.refusal.ReplayRefusal.{ReplayRefusal}
 use Rattle.sj_core.specs.declared.refusal.ReplayRefusal.TheVariants as refusals
+use Rattle.sj_end.specs.Lines.{note_seen}
+use Rattle.sj_end.specs.declared.note.Entry.{Entry}
 use Rattle.sj_end.specs.declared.note.Line.{Line}
 use Rattle.sj_lang.specs.FileAt.{FileAt}
-use Rattle.sj_rules.specs.Log.{LineAt}
+use Rattle.sj_rules.specs.Log.{LineAt, NoteAt}
 use Rattle.sj_seat_laws.specs.SeatsStart.{Callers}
 use Rattle.sj_seat_told_laws.specs.SeatsHistory.{IsSeatsHistory}
-use Rattle.sj_seats.specs.Calls.{callers_by, then_calls}
+use Rattle.sj_seats.specs.Calls.{OpenedAs, callers_by, then_calls}
 use Rattle.sj_seats.specs.Core.{is_seat}
-use Rattle.sj_seats.specs.Played.{IsLedBy, IsReached, Redoes, chairs_in, core_in, file_in, history_in}
+use Rattle.sj_seats.specs.Played.{IsLedBy, IsReached, Redoes, chairs_in, core_in, file_in, history_in, opened_in}
 use Rattle.sj_seats.specs.Replaying.{IsMisfitFrom, IsMisfitHere}
 use Rattle.sj_seats.specs.declared.played.PlayedWorld.{PlayedWorld}
+use Rattle.sj_seats.proofs.AnswerLemmas.{done_so}
 use Rattle.sj_seats.proofs.ToldLemmas.{callers_end}
 use Rattle.sj_seats.proofs.GoingLemmas.{led_on}
 
@@ -29,9 +33,9 @@ led_next c d lines k x lt by redone =
     subst (IsLedBy d) (sym (next_taken lines k x lt)) (led_on c d (map line_at (take k lines)) (line_at (get_or lines k x)) by redone)
 
 -- the next line isn't the one that is due
-pub misfit_from : (c : PlayedWorld) (file : FileAt) (seats : ℕ → Bool) (lines : List Line) (k number : ℕ) (x : Line) (r : ReplayRefusal) → file_in c ≡ file → ((q : ℕ) → is_seat (chairs_in c) q ≡ seats q)
-    → k < length lines → number ≡ k + 1 → IsLedBy c (map line_at (take k lines)) → IsMisfitHere number (get_or lines k x) r → IsMisfitFrom file seats (map line_at lines) r
-misfit_from c file seats lines k number x (refusals.Misfit other) same who lt count by here =
+pub misfit_from : (c : PlayedWorld) (file : FileAt) (seats : ℕ → Bool) (opened : OpenedAs) (lines : List Line) (k number : ℕ) (x : Line) (r : ReplayRefusal) → file_in c ≡ file → ((q : ℕ) → is_seat (chairs_in c) q ≡ seats q) → opened_in c ≡ opened
+    → k < length lines → number ≡ k + 1 → IsLedBy c (map line_at (take k lines)) → IsMisfitHere number (get_or lines k x) r → IsMisfitFrom file seats opened (map line_at lines) r
+misfit_from c file seats opened lines k number x (refusals.Misfit other) same who told lt count by here =
     let past : List LineAt = map line_at (take k lines) in
     record {
       before = past;
@@ -43,12 +47,12 @@ misfit_from c file seats lines k number x (refusals.Misfit other) same who lt co
       done = record {
         world = core_in c;
         run = λ rest.
-            subst (λ (f : FileAt). IsSeatsHistory max f (callers_by seats (then_calls past rest)) past (core_in c rest)) same
-            (subst (λ (cs : Callers). IsSeatsHistory max (file_in c) cs past (core_in c rest)) (λ i q. callers_by (λ r. who r i) (then_calls past rest) q) (by.run rest));
+            subst (λ (f : FileAt). IsSeatsHistory max f (callers_by seats (then_calls opened past rest)) past (core_in c rest)) same
+            (subst (λ (cs : Callers). IsSeatsHistory max (file_in c) cs past (core_in c rest)) (λ i q. callers_by (λ r. who r i) (then_calls (told i) past rest) q) (by.run rest));
       };
       differs = λ is. here.differs (is ∙ ap (λ y. Some (line_at y)) here.line_is);
     }
-misfit_from c file seats lines k number x refusals.NoMemory same who lt count by here = tt
+misfit_from c file seats opened lines k number x refusals.NoMemory same who told lt count by here = tt
 
 -- all lines are done, and become the history
 pub reached_last : (c d : PlayedWorld) (lines : List Line) (k : ℕ) → length lines ≤ k → IsLedBy c (map line_at (take k lines)) → ((past : List LineAt) → IsLedBy c past → IsLedBy d past) → history_in d ≡ map line_at lines → IsReached d
@@ -56,7 +60,16 @@ reached_last c d lines k all by same history =
     subst (IsLedBy d) (ap (map line_at) (take_all k lines all) ∙ sym history) (same (map line_at (take k lines)) by)
 
 -- where nothing more is called, the codes called exactly what the history tells
-pub run_told : (c : PlayedWorld) → IsReached c → IsSeatsHistory max (file_in c) (Rattle.sj_seats.specs.Calls.callers_told (is_seat (chairs_in c)) (history_in c)) (history_in c) (core_in c Rattle.sj_seats.specs.Calls.no_calls)
+pub run_told : (c : PlayedWorld) → IsReached c → IsSeatsHistory max (file_in c) (Rattle.sj_seats.specs.Calls.callers_told (is_seat (chairs_in c)) (opened_in c) (history_in c)) (history_in c) (core_in c Rattle.sj_seats.specs.Calls.no_calls)
 run_told c reached =
     subst (λ (cs : Callers). IsSeatsHistory max (file_in c) cs (history_in c) (core_in c Rattle.sj_seats.specs.Calls.no_calls))
-    (Rattle.sj_seats.proofs.ToldLemmas.callers_end (is_seat (chairs_in c)) (history_in c)) (reached.run Rattle.sj_seats.specs.Calls.no_calls)
+    (Rattle.sj_seats.proofs.ToldLemmas.callers_end (is_seat (chairs_in c)) (opened_in c) (history_in c)) (reached.run Rattle.sj_seats.specs.Calls.no_calls)
+
+-- where it made the line that was logged, that is done
+pub redone_so : (c d : PlayedWorld) (o : Option Line) (l : Line) → IfSome o (λ x. x ≡ l → Redoes c (line_at x) d) → o ≡ Some l → Redoes c (line_at l) d
+redone_so c d None l made is = absurd (cc is)
+redone_so c d (Some x) l made is = let same : x ≡ l = cc is in subst (λ (m : Line). Redoes c (line_at m) d) same (made same)
+
+-- whatever its note is
+pub redone_any : {E : Type 0} (c d : PlayedWorld) (r : Result (Option Entry) E) (party : ℕ) (note : NoteAt) → IfOk r (λ o. IfSome o (λ e. Redoes c (line_with party e) d)) → IfOk r (λ o. IfSome o (λ e. note_seen e.note ≡ note → Redoes c (line_with party e) d))
+redone_any c d r party note h = done_so r (λ e. Redoes c (line_with party e) d) (λ e. note_seen e.note ≡ note → Redoes c (line_with party e) d) (λ e x same. x) h

@@ -25,9 +25,9 @@ use Rattle.sj_semantics.specs.World.{start_of}
 use Rattle.sj_table.specs.declared.table.Table.{Table}
 use Rattle.sj_table.specs.Spots.{start_in}
 use Rattle.sj_seats.specs.Beginning.{AreBegun, HasBegun, Sat, SitsSo}
-use Rattle.sj_seats.specs.Calls.{callers_by, then_calls}
+use Rattle.sj_seats.specs.Calls.{OpenedAs, callers_by, then_calls}
 use Rattle.sj_seats.specs.Core.{AreOver, chair_of, core_by, is_seat, seat_by, seats_by}
-use Rattle.sj_seats.specs.Played.{IsReached, chairs_in, core_in, file_in, history_in, nodes_in}
+use Rattle.sj_seats.specs.Played.{IsReached, chairs_in, core_in, file_in, history_in, nodes_in, opened_in}
 use Rattle.sj_seats.specs.Seated.{seat_in}
 use Rattle.sj_seats.specs.declared.played.Chair.{Chair}
 use Rattle.sj_seats.specs.declared.played.PlayedWorld.{PlayedWorld}
@@ -96,9 +96,9 @@ module _ (file : FileAt) (t : Table) (seats : List Bool) (nodes : List Node) (ch
 
   -- ---- the world
 
-  module _ (rest : ℕ → List Call) where
+  module _ (opened : OpenedAs) (rest : ℕ → List Call) where
     abbrev calls : Callers
-    calls = callers_by (is_seat chairs) (then_calls [] rest)
+    calls = callers_by (is_seat chairs) (then_calls opened [] rest)
 
     abbrev laws : ℕ → Option SeatedAt
     laws q = seat_of (seats_start kept calls).seats q
@@ -176,6 +176,6 @@ reached_first c file seats accepted same all count starts carries none =
         count = all.chair_count ∙ sym all.node_count;
       };
       run = λ rest.
-          subst (λ (f : FileAt). seats_core f (callers_by (is_seat (chairs_in c)) (then_calls [] rest)) ≡ core_by f c.table (nodes_in c) (chairs_in c) rest) (sym same)
-          (start_is file c.table seats (nodes_in c) (chairs_in c) all count starts rest);
+          subst (λ (f : FileAt). seats_core f (callers_by (is_seat (chairs_in c)) (then_calls (opened_in c) [] rest)) ≡ core_by f c.table (nodes_in c) (chairs_in c) rest) (sym same)
+          (start_is file c.table seats (nodes_in c) (chairs_in c) all count starts (opened_in c) rest);
     })

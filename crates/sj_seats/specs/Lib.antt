@@ -1,5 +1,6 @@
 pub mod Beginning
 pub mod Calls
+pub mod Openings
 pub mod Calling
 pub mod Core
 pub mod Played

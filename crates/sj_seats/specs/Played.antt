@@ -16,8 +16,9 @@ use Rattle.sj_seat_laws.specs.Calls.{Call}
 use Rattle.sj_seat_laws.specs.SeatedPlay.{Player, seated_play}
 use Rattle.sj_seat_laws.specs.SeatsStart.{Callers}
 use Rattle.sj_seat_told_laws.specs.SeatsHistory.{IsSeatsHistory}
-use Rattle.sj_seats.specs.Calls.{callers_by, first_calls, no_calls, then_calls}
+use Rattle.sj_seats.specs.Calls.{OpenedAs, callers_by, first_calls, no_calls, then_calls}
 use Rattle.sj_seats.specs.Core.{AreOver, core_by, is_seat}
+use Rattle.sj_seats.specs.Openings.{opened_by}
 use Rattle.sj_seats.specs.declared.played.Chair.{Chair}
 use Rattle.sj_seats.specs.declared.played.PlayedWorld.{PlayedWorld}
 
@@ -36,13 +37,17 @@ chairs_in c = c.chairs.items
 abbrev pub history_in : PlayedWorld → List LineAt
 history_in c = map line_at c.history.items
 
+-- as which protocols its codes open their sessions
+abbrev pub opened_in : PlayedWorld → OpenedAs
+opened_in c = opened_by c.opened.items
+
 -- the world, where the codes still make these calls
 abbrev pub core_in : PlayedWorld → (ℕ → List Call) → WorldAt Place Player
 core_in c rest = core_by (file_in c) c.table (nodes_in c) (chairs_in c) rest
 
 -- its codes called what the lines tell, and then these
 abbrev pub callers_in : PlayedWorld → List LineAt → (ℕ → List Call) → Callers
-callers_in c past rest = callers_by (is_seat (chairs_in c)) (then_calls past rest)
+callers_in c past rest = callers_by (is_seat (chairs_in c)) (then_calls (opened_in c) past rest)
 
 -- each party has its node and its chair, over the one table
 pub record HasParties (c : PlayedWorld) : Type 0 where
@@ -70,13 +75,14 @@ IsReached c = IsLedBy c (history_in c)
 pub record Keeps (c d : PlayedWorld) : Type 0 where
   pub file : file_in d ≡ file_in c
   pub table : d.table ≡ c.table
+  pub opened : opened_in d ≡ opened_in c
   pub seats : (q : ℕ) → is_seat (chairs_in d) q ≡ is_seat (chairs_in c) q
   pub count : length (nodes_in d) ≡ length (nodes_in c)
 
 -- the line's event is a step, and it is the line that is due, where its call is the next one
 pub record Redoes (c : PlayedWorld) (l : LineAt) (d : PlayedWorld) : Type 0 where
-  pub step : (rest : ℕ → List Call) → happens (seated_play (file_in c)) max (core_in c (first_calls l rest)) l.party l.entry.event ≡ Some (core_in d rest)
-  pub due_line : (rest : ℕ → List Call) → due (seated_play (file_in c)) max (core_in c (first_calls l rest)) l.party l.entry.event ≡ Some l
+  pub step : (rest : ℕ → List Call) → happens (seated_play (file_in c)) max (core_in c (first_calls (opened_in c) l rest)) l.party l.entry.event ≡ Some (core_in d rest)
+  pub due_line : (rest : ℕ → List Call) → due (seated_play (file_in c)) max (core_in c (first_calls (opened_in c) l rest)) l.party l.entry.event ≡ Some l
   pub parties : HasParties d
   pub keeps : Keeps c d
 

@@ -12,7 +12,7 @@ use Rattle.sj_rules.specs.World.{WorldAt}
 use Rattle.sj_seat_laws.specs.Calls.{Call}
 use Rattle.sj_seat_laws.specs.SeatedPlay.{Player}
 use Rattle.sj_seat_told_laws.specs.SeatsHistory.{IsSeatsHistory}
-use Rattle.sj_seats.specs.Calls.{callers_by, then_calls}
+use Rattle.sj_seats.specs.Calls.{OpenedAs, callers_by, then_calls}
 
 -- the event of that line made another, or none
 pub record IsOther (number : ℕ) (line : Line) (m : Misfit) : Type 0 where
@@ -24,20 +24,21 @@ abbrev pub IsMisfitHere : ℕ → Line → ReplayRefusal → Type 0
 IsMisfitHere number line (refusals.Misfit m) = IsOther number line m
 IsMisfitHere number line refusals.NoMemory = ⊤
 
--- these lines are the history of a core run, whatever the codes of these parties call after it
-pub record AreDone (file : FileAt) (seats : ℕ → Bool) (lines : List LineAt) : Type 0 where
+-- these lines are the history of a core run, whatever the codes of these parties call after it; they
+-- opened their sessions as these
+pub record AreDone (file : FileAt) (seats : ℕ → Bool) (opened : OpenedAs) (lines : List LineAt) : Type 0 where
   pub world : (ℕ → List Call) → WorldAt Place Player
-  pub run : (rest : ℕ → List Call) → IsSeatsHistory max file (callers_by seats (then_calls lines rest)) lines (world rest)
+  pub run : (rest : ℕ → List Call) → IsSeatsHistory max file (callers_by seats (then_calls opened lines rest)) lines (world rest)
 
 -- the line of that number isn't the one that its event made there; those before it are done
-pub record IsStop (file : FileAt) (seats : ℕ → Bool) (lines : List LineAt) (m : Misfit) : Type 0 where
+pub record IsStop (file : FileAt) (seats : ℕ → Bool) (opened : OpenedAs) (lines : List LineAt) (m : Misfit) : Type 0 where
   pub before : List LineAt
   pub after : List LineAt
   pub all : lines ≡ before ++ line_at m.logged ∷ after
   pub count : m.number ≡ length before + 1
-  pub done : AreDone file seats before
+  pub done : AreDone file seats opened before
   pub differs : option_map line_at m.due ≡ Some (line_at m.logged) → ⊥
 
-abbrev pub IsMisfitFrom : FileAt → (ℕ → Bool) → List LineAt → ReplayRefusal → Type 0
-IsMisfitFrom file seats lines (refusals.Misfit m) = IsStop file seats lines m
-IsMisfitFrom file seats lines refusals.NoMemory = ⊤
+abbrev pub IsMisfitFrom : FileAt → (ℕ → Bool) → OpenedAs → List LineAt → ReplayRefusal → Type 0
+IsMisfitFrom file seats opened lines (refusals.Misfit m) = IsStop file seats opened lines m
+IsMisfitFrom file seats opened lines refusals.NoMemory = ⊤

@@ -10,9 +10,9 @@ use Rattle.sj_seat_laws.specs.Calls.{Ends}
 use Rattle.sj_seat_laws.specs.SeatedPlay.{Player}
 use Rattle.sj_seat_laws.specs.SeatsStart.{Callers}
 use Rattle.sj_table.specs.declared.table.Table.{Table}
-use Rattle.sj_seats.specs.Calls.{callers_told, no_calls}
+use Rattle.sj_seats.specs.Calls.{OpenedAs, callers_told, no_calls}
 use Rattle.sj_seats.specs.Core.{chair_of, is_seat}
-use Rattle.sj_seats.specs.Played.{chairs_in, core_in, file_in, history_in, nodes_in}
+use Rattle.sj_seats.specs.Played.{chairs_in, core_in, file_in, history_in, nodes_in, opened_in}
 use Rattle.sj_seats.specs.declared.played.Chair.{Chair}
 use Rattle.sj_seats.specs.declared.seated.SeatedWorld.{SeatedWorld}
 
@@ -32,9 +32,13 @@ history_of w = history_in w
 abbrev pub seats_of : SeatedWorld → ℕ → Bool
 seats_of w = is_seat (chairs_in w)
 
+-- as which protocols their codes opened their sessions
+abbrev pub opened_of : SeatedWorld → OpenedAs
+opened_of w = opened_in w
+
 -- what their codes called: exactly what the history tells
 abbrev pub callers_of : SeatedWorld → Callers
-callers_of w = callers_told (seats_of w) (history_of w)
+callers_of w = callers_told (seats_of w) (opened_of w) (history_of w)
 
 -- the parties and the lanes as the history left them; no code makes a call any more
 abbrev pub core_of : SeatedWorld → WorldAt Place Player

@@ -22,8 +22,7 @@ use sj_node::{Call, Halt, Node};
 use sj_seat::{Guard, Wish, go_on};
 use sj_table::Table;
 
-/// What a code asked for whose act has that note. None for an opening, whose note names no
-/// protocol, and for what no code does.
+/// The step that a code asked for whose act has that note; none for what is no step of a code.
 fn wish_of(note: Note) -> Option<Wish>
     ensures { IfSome result (λ w. call_told 0 (note_seen note) ≡ Some (wished w)) }
 {
@@ -47,7 +46,7 @@ fn wish_of(note: Note) -> Option<Wish>
 }
 
 /// How many texts a file may have: each text that a message names is one.
-const ALL_TEXTS: usize = usize::MAX;
+pub(crate) const ALL_TEXTS: usize = usize::MAX;
 
 /// The node's call that the code asks for, where it is guarded.
 fn guarded(table: &Table, chair: &Chair, wish: Wish) -> Option<Call>
@@ -106,13 +105,14 @@ impl PlayedWorld {
     pub fn call(&mut self, party: u16, note: Note) -> Result<Option<Entry>, NoMemory>
         requires led { IsLed self.old }
         requires there { party < length (nodes_in self.old) }
-        ensures done { IfOk result (λ o. IfSome o (λ e. Redoes self.old (line_with party e) self.new)) }
+        ensures done { IfOk result (λ o. IfSome o (λ e. note_seen e.note ≡ note_seen note →
+            Redoes self.old (line_with party e) self.new)) }
         ensures none { IfOk result (λ o. IfNone o (Rests self.old self.new)) }
         ensures err { OnErr result (Rests self.old self.new) }
         ensures history { self.new.history ≡ self.old.history }
     {
         let Some(wish) = wish_of(note) else {
-            return Ok(None);
+            return self.open(party, note);
         };
         match &mut self.chairs[party as usize] {
             Some(chair) => make(&self.table, &mut self.nodes[party as usize], chair, wish),

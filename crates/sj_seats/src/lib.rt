@@ -5,6 +5,7 @@
 mod calls;
 mod drains;
 mod events;
+mod openings;
 mod played;
 mod replays;
 mod seated;

@@ -3,7 +3,7 @@
 use sj_end::Line;
 use sj_node::Node;
 use sj_plain::Kept;
-use sj_seat::{HeldEnd, Openings};
+use sj_seat::{HeldEnd, OpenedSession, Openings};
 use sj_table::Table;
 use std::alloc::Global;
 
@@ -16,8 +16,8 @@ pub struct Chair {
     pub calls: u32,
 }
 
-/// A file, the nodes of its parties over one table, what the codes of some of them hold, and what
-/// happened so far.
+/// A file, the nodes of its parties over one table, what the codes of some of them hold, as which
+/// protocols each party's code opens its sessions, and what happened so far.
 #[derive(Drop)]
 pub struct PlayedWorld {
     pub alloc: Global,
@@ -25,5 +25,6 @@ pub struct PlayedWorld {
     pub table: Table,
     pub nodes: Vec<Node>,
     pub chairs: Vec<Option<Chair>>,
+    pub opened: Vec<Vec<OpenedSession>>,
     pub history: Vec<Line>,
 }

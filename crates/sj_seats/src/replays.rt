@@ -2,8 +2,9 @@
 ghost use Rattle.std.specs.Prelude.{◌≡◌, ◌<◌, [], IfErr, IfOk, IfSome, IsTrue, OnOk, length, map};
 ghost use Rattle.sj_core.specs.Nodes.{ComesFrom};
 ghost use Rattle.sj_core.specs.Views.{line_at, line_with};
+ghost use Rattle.sj_end.specs.Lines.{note_seen};
 ghost use Rattle.sj_seats.specs.Core.{is_seat};
-ghost use Rattle.sj_seats.specs.Played.{IsLed, IsReached, Keeps, Redoes, chairs_in, file_in, history_in, nodes_in};
+ghost use Rattle.sj_seats.specs.Played.{IsLed, IsReached, Keeps, Redoes, chairs_in, file_in, history_in, nodes_in, opened_in};
 ghost use Rattle.sj_seats.specs.Replaying.{IsMisfitFrom, IsMisfitHere};
 
 use crate::played::PlayedWorld;
@@ -27,12 +28,14 @@ impl PlayedWorld {
     }
 
     /// Does the event of the line: a delivery, the act of a party that goes by the file, or the call
-    /// that the line tells of a code. It isn't listed.
+    /// that the line tells of a code. It isn't listed. Where its note is another one, a session may have
+    /// been opened as another protocol than its code did.
     fn happen(&mut self, line: &Line) -> Result<Option<Entry>, NoMemory>
         requires led { IsLed self.old }
         requires there { line.now.party < length (nodes_in self.old) }
         requires origin { ComesFrom line.now.entry.event (length (nodes_in self.old)) }
-        ensures done { IfOk result (λ o. IfSome o (λ e. Redoes self.old (line_with line.now.party e) self.new)) }
+        ensures done { IfOk result (λ o. IfSome o (λ e. note_seen e.note ≡ note_seen line.now.entry.note →
+            Redoes self.old (line_with line.now.party e) self.new)) }
     {
         match line.entry.event {
             Event::Deliver(from) => self.deliver(line.party, from),
@@ -50,7 +53,8 @@ impl PlayedWorld {
     /// isn't listed.
     fn made_line(&mut self, line: &Line) -> Result<Option<Line>, NoMemory>
         requires led { IsLed self.old }
-        ensures done { IfOk result (λ o. IfSome o (λ l. Redoes self.old (line_at l) self.new)) }
+        ensures done { IfOk result (λ o. IfSome o (λ l. l ≡ line.now →
+            Redoes self.old (line_at l) self.new)) }
     {
         if !self.is_there(line.party, line.entry.event) {
             return Ok(None);
@@ -90,7 +94,8 @@ impl PlayedWorld {
         ensures reached { IfOk result (λ c. IsReached c) }
         ensures keeps { IfOk result (λ c. Keeps self c) }
         ensures history { IfOk result (λ c. history_in c ≡ map line_at lines.items) }
-        ensures misfit { IfErr result (IsMisfitFrom (file_in self) (is_seat (chairs_in self)) (map line_at lines.items)) }
+        ensures misfit { IfErr result (IsMisfitFrom (file_in self) (is_seat (chairs_in self)) (opened_in self)
+            (map line_at lines.items)) }
     {
         for done in 0..lines.len() {
             if let Err(refusal) = self.do_again(done as u64 + 1, &lines[done]) {

@@ -10,6 +10,7 @@ ghost use Rattle.sj_rules.specs.History.{IsQuietAmong};
 ghost use Rattle.sj_seat.specs.Places.{CarriesPlaces};
 ghost use Rattle.sj_seat_laws.specs.SeatedPlay.{seated_play};
 ghost use Rattle.sj_seat_told_laws.specs.SeatsHistory.{IsSeatsHistory};
+ghost use Rattle.sj_seats.specs.Openings.{opened_by};
 ghost use Rattle.sj_seats.specs.Replaying.{IsMisfitFrom};
 ghost use Rattle.sj_table.specs.Spots.{start_in};
 
@@ -19,7 +20,7 @@ use sj_check::Accepted;
 use sj_core::ReplayRefusal;
 use sj_end::Line;
 use sj_node::Node;
-use sj_seat::HeldEnd;
+use sj_seat::{HeldEnd, OpenedSession};
 use sj_table::Table;
 use std::alloc::Global;
 use std::marker::Model;
@@ -47,7 +48,7 @@ impl Model for SeatedWorld {
 }
 
 impl SeatedWorld {
-    ghost use Rattle.sj_seats.specs.Seated.{callers_of, calls_of, core_of, ends_of, history_of, kept_file, nodes_of, party_count, seat_in, seats_of, table_of};
+    ghost use Rattle.sj_seats.specs.Seated.{callers_of, calls_of, core_of, ends_of, history_of, kept_file, nodes_of, opened_of, party_count, seat_in, seats_of, table_of};
     ghost use Rattle.sj_seat.specs.Holding.{ends_at};
 
     /// The parties of the file before any event, over that table of its protocols. Of each party
@@ -72,18 +73,20 @@ impl SeatedWorld {
         ensures run { IfOk result (λ w. IsSeatsHistory max (kept_file w) (callers_of w) (history_of w) (core_of w)) }
         ensures parties { IfOk result (λ w. party_count w ≡ length (kept_file w).parties) }
     {
-        let played_world = PlayedWorld::begin(alloc, accepted, table, seats)?;
+        let played_world = PlayedWorld::begin(alloc, accepted, table, seats, Vec::new(alloc))?;
         Ok(SeatedWorld { played_world })
     }
 
     /// The world to which these lines lead from the file's start on, if each is the one that is due
     /// there, where the codes call what the lines tell. They become its history, so that no line is
-    /// copied.
+    /// copied. A line names no protocol, so `opened` has for each party as which protocols its code
+    /// opened its sessions; what it lacks counts as protocol 0.
     pub fn replayed(
         alloc: Global,
         accepted: &Accepted,
         table: &Table,
         seats: &[bool],
+        opened: Vec<Vec<OpenedSession>>,
         lines: Vec<Line>,
     ) -> Result<SeatedWorld, ReplayRefusal>
         requires starts { (p : ℕ) → start_in table.now p
@@ -95,6 +98,7 @@ impl SeatedWorld {
         ensures kept { IfOk result (λ w. kept_file w ≡ without_words (file_of (held accepted.now))) }
         ensures history { IfOk result (λ w. history_of w ≡ map line_at lines.items) }
         ensures seats { IfOk result (λ w. (q : ℕ) → seats_of w q ≡ seat_in seats.now q) }
+        ensures opened { IfOk result (λ w. (q sess : ℕ) → opened_of w q sess ≡ opened_by opened.items q sess) }
 
         // What is true of every world.
         ensures run { IfOk result (λ w. IsSeatsHistory max (kept_file w) (callers_of w) (history_of w) (core_of w)) }
@@ -102,9 +106,9 @@ impl SeatedWorld {
 
         // The first line that its event didn't make; those before it are done, and none after it.
         ensures misfit { IfErr result (IsMisfitFrom (without_words (file_of (held accepted.now)))
-            (seat_in seats.now) (map line_at lines.items)) }
+            (seat_in seats.now) (opened_by opened.items) (map line_at lines.items)) }
     {
-        let played_world = PlayedWorld::begin(alloc, accepted, table, seats)?;
+        let played_world = PlayedWorld::begin(alloc, accepted, table, seats, opened)?;
         match played_world.replayed(lines) {
             Ok(played_world) => Ok(SeatedWorld { played_world }),
             Err(refusal) => Err(refusal),
@@ -122,6 +126,7 @@ impl SeatedWorld {
         ensures run { IsSeatsHistory max (kept_file self.new) (callers_of self.new) (history_of self.new) (core_of self.new) }
         ensures kept { kept_file self.new ≡ kept_file self.old }
         ensures seats { (q : ℕ) → seats_of self.new q ≡ seats_of self.old q }
+        ensures opened { opened_of self.new ≡ opened_of self.old }
         ensures parties { party_count self.new ≡ length (kept_file self.new).parties }
     {
         self.played_world.drain()

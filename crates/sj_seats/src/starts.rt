@@ -7,7 +7,8 @@ ghost use Rattle.sj_plain.specs.Kept.{without_words};
 ghost use Rattle.sj_seat.specs.Places.{CarriesPlaces};
 ghost use Rattle.sj_seats.specs.Beginning.{AreBegun, HasBegun, Sat, SitsSo};
 ghost use Rattle.sj_seats.specs.Core.{is_seat};
-ghost use Rattle.sj_seats.specs.Played.{IsReached, chairs_in, file_in, history_in};
+ghost use Rattle.sj_seats.specs.Openings.{opened_by};
+ghost use Rattle.sj_seats.specs.Played.{IsReached, chairs_in, file_in, history_in, opened_in};
 ghost use Rattle.sj_seats.specs.Seated.{seat_in};
 ghost use Rattle.sj_table.specs.Spots.{start_in};
 
@@ -16,7 +17,7 @@ use sj_base::NoMemory;
 use sj_check::Accepted;
 use sj_node::Node;
 use sj_plain::Kept;
-use sj_seat::{first_ends, party_openings};
+use sj_seat::{OpenedSession, first_ends, party_openings};
 use sj_table::Table;
 use std::alloc::Global;
 
@@ -83,12 +84,14 @@ fn first_node(
 }
 
 impl PlayedWorld {
-    /// The parties of the file before any event, with nothing in their lanes.
+    /// The parties of the file before any event, with nothing in their lanes. The codes will open
+    /// their sessions so.
     pub fn begin(
         alloc: Global,
         accepted: &Accepted,
         table: &Table,
         seats: &[bool],
+        opened: Vec<Vec<OpenedSession>>,
     ) -> Result<PlayedWorld, NoMemory>
         requires starts { (p : ℕ) → start_in table.now p
             ≡ body_named (file_of (held accepted.now)).protocols p }
@@ -98,6 +101,7 @@ impl PlayedWorld {
         ensures file { IfOk result (λ c. file_in c ≡ without_words (file_of (held accepted.now))) }
         ensures history { IfOk result (λ c. history_in c ≡ []) }
         ensures seats { IfOk result (λ c. (q : ℕ) → is_seat (chairs_in c) q ≡ seat_in seats.now q) }
+        ensures opened { IfOk result (λ c. (q sess : ℕ) → opened_in c q sess ≡ opened_by opened.items q sess) }
     {
         let mut nodes = Vec::new(alloc);
         let mut chairs = Vec::new(alloc);
@@ -117,6 +121,7 @@ impl PlayedWorld {
             table,
             nodes,
             chairs,
+            opened,
             history,
         })
     }

@@ -1,10 +1,9 @@
 use Rattle.std.proofs.Common.{◌≡◌, ◌∙◌, None, ap, sym}
 use Rattle.sj_seat.specs.Views.{worker_of}
-use Rattle.sj_seat.specs.Wishes.{wished}
 use Rattle.sj_work.proofs.LaneLaws.{laws}
 use Rattle.sj_work.specs.Views.{stop_of}
 use Rattle.sj_work.specs.Worked.{kept_stop}
-use Rattle.sj_seat_run.proofs.PlayedLemmas.{played_call, played_none, played_then}
+use Rattle.sj_seat_run.proofs.PlayedLemmas.{played_none, played_then}
 use Rattle.sj_seat_run.proofs.parts.play_out.Goals as goal
 
 pub loop-init : goal.loop-init
@@ -20,7 +19,6 @@ loop-preserved g c =
     let il = g.met.I.InLane g.world.𝓛 g.world.𝓜 g.world.𝓡 (λ s x. x, λ x. x, λ x. x, λ x. x) in
     let k = laws g.O.OutLane g.I.InLane ol.same_itself ol.same_later il.same_itself il.same_later in
     let l = c.loop.guest in
-    let m = c.perform-told.new.self in
-    let h = c.perform-told.ensures in
+    let m = c.do_ask-told.new.guest in
     let kept : kept_stop (stop_of (worker_of l)) ≡ None = ap kept_stop (sym (c.stop.ensures ∙ ap stop_of c.worker.ensures)) ∙ c.stays.ensures c.if-stays.false in
-    played_then k c.args.guest.now l m kept c.loop.invariant (played_call k l m (wished c.in-Some.wish) c.perform-told.result h.ok h.err h.keeps h.counts)
+    played_then k c.args.guest.now l m kept c.loop.invariant c.do_ask-told.ensures

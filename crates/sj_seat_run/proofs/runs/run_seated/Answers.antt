@@ -10,6 +10,7 @@ use Rattle.sj_work.specs.declared.worker.Stop.TheVariants as stops
 use Rattle.sj_work.specs.declared.worker.Worker.{Worker}
 use Rattle.sj_core.proofs.StopLemmas.{error_is}
 use Rattle.sj_seat_told_laws.specs.SeatsHistory.{IsSeatsHistory}
+use Rattle.sj_seats.specs.Openings.{opened_by}
 use Rattle.sj_seats.specs.Seated.{callers_of, core_of, kept_file}
 use Rattle.sj_run.specs.Workers.{NoneStopped, SomeStopped, logs_in}
 use Rattle.sj_seat_run.specs.Seats.{seats_by}
@@ -67,13 +68,13 @@ returns-clause-seats g c = λ q. c.in-Ok.ensures.seats q ∙ ap (λ cs. seats_by
 
 pub returns-in-Err-clause-link_fault : goal.returns-in-Err-clause-link_fault
 returns-in-Err-clause-link_fault g c =
-    λ is. absurd (no_link_fault (file_of (file_in c.args.accepted.now)) (seats_by c.deref-4.result.now) (map line_at c.in_ok-lines.lines.items) c.in-Err.refusal c.in-Err.ensures.cause (error_is _ _ is))
+    λ is. absurd (no_link_fault (file_of (file_in c.args.accepted.now)) (seats_by c.deref-4.result.now) (opened_by c.in_ok-parties.parties.opened.items) (map line_at c.in_ok-lines.lines.items) c.in-Err.refusal c.in-Err.ensures.cause (error_is _ _ is))
 
 pub returns-in-Err-clause-cause : goal.returns-in-Err-clause-cause
 returns-in-Err-clause-cause g c =
     let workers = c.in_ok-parties.parties.workers.items in
     replay_cause g.L.Out.OutLane g.L.In.InLane g.L.Links.joined
-    (file_of (file_in c.args.accepted.now)) c.args.looks (g.L.Links.tells c.args.links.now) (seats_by c.args.codes.items) workers (map line_at c.in_ok-lines.lines.items) (seats_by c.deref-4.result.now) c.in-Err.refusal
+    (file_of (file_in c.args.accepted.now)) c.args.looks (g.L.Links.tells c.args.links.now) (seats_by c.args.codes.items) workers (map line_at c.in_ok-lines.lines.items) (seats_by c.deref-4.result.now) (opened_by c.in_ok-parties.parties.opened.items) c.in-Err.refusal
     (record {
       ran = c.in_ok-parties.ensures.ran;
       faultless = subst (λ (ws : List (Worker g.row.L-Out.Denot g.row.L-In.Denot)). NoneStopped ws stops.Fault) c.deref.ensures.value (c.if-faulty.ensures.none refl);

@@ -4,6 +4,7 @@ use Rattle.sj_seat.specs.Ready.{first_there}
 use Rattle.sj_seat.specs.Views.{calls_of, ends_of, seat_of}
 use Rattle.sj_seat.proofs.AfterLemmas.{nothing_done, waited_none}
 use Rattle.sj_seat.proofs.AnyLemmas.{any_first, any_ok}
+use Rattle.sj_seat.proofs.CountLemmas.{counted_itself}
 use Rattle.sj_seat.proofs.PickLemmas.{allowed_there, there_if}
 use Rattle.sj_seat.proofs.guest.Guest.take_any.Goals as goal
 
@@ -43,3 +44,10 @@ returns-in-Some-first_ready-clause-first g c =
     let e = c.in-Some-first_ready.end in
     let there : first_there a.worker.node c.args.ends.now ≡ Some e = sym c.first_ready.ensures ∙ c.in-Some-first_ready.is in
     any_first k a a c.take_there.new.self (waited_none k a) e c.args.ends.now c.take_there.result there h.ok h.end
+
+pub returns-in-Some-clause-counts : goal.returns-in-Some-clause-counts
+returns-in-Some-clause-counts g c =
+    let ol = g.met.O.OutLane g.world.𝓛 g.world.𝓜 g.world.𝓡 (λ s x. x, λ x. x, λ x. x, λ x. x) in
+    let il = g.met.I.InLane g.world.𝓛 g.world.𝓜 g.world.𝓡 (λ s x. x, λ x. x, λ x. x, λ x. x) in
+    let k = laws g.O.OutLane g.I.InLane ol.same_itself ol.same_later il.same_itself il.same_later in
+    counted_itself k c.args.self.now.worker

@@ -3,6 +3,7 @@ use Rattle.sj_work.proofs.LaneLaws.{laws}
 use Rattle.sj_seat.specs.Ready.{first_there}
 use Rattle.sj_seat.proofs.AfterLemmas.{waited_err, waited_more, waited_none, waited_then}
 use Rattle.sj_seat.proofs.AnyLemmas.{allowed_waited, any_first, any_ok, waited_went}
+use Rattle.sj_seat.proofs.CountLemmas.{counted_later}
 use Rattle.sj_seat.proofs.PickLemmas.{there_if}
 use Rattle.sj_seat.proofs.guest.Guest.wait_for_any.Goals as goal
 
@@ -94,3 +95,18 @@ returns-in-Some-first_ready-clause-first g c =
     let e = c.in-Some-first_ready.end in
     let there : first_there w.worker.node c.args.ends.now ≡ Some e = sym c.first_ready.ensures ∙ c.in-Some-first_ready.is in
     any_first k a w c.take_there.new.self x e c.args.ends.now c.take_there.result there h.ok h.end
+
+pub returns-in-Some-clause-counts : goal.returns-in-Some-clause-counts
+returns-in-Some-clause-counts g c =
+    let ol = g.met.O.OutLane g.world.𝓛 g.world.𝓜 g.world.𝓡 (λ s x. x, λ x. x, λ x. x, λ x. x) in
+    let il = g.met.I.InLane g.world.𝓛 g.world.𝓜 g.world.𝓡 (λ s x. x, λ x. x, λ x. x, λ x. x) in
+    let k = laws g.O.OutLane g.I.InLane ol.same_itself ol.same_later il.same_itself il.same_later in
+    counted_later k c.args.self.now.worker c.loop.self.worker c.wait.new.self.worker c.loop.invariant.waited.counts c.wait.ensures.counts
+
+pub returns-in-Some-first_ready-clause-counts : goal.returns-in-Some-first_ready-clause-counts
+returns-in-Some-first_ready-clause-counts g c =
+    let ol = g.met.O.OutLane g.world.𝓛 g.world.𝓜 g.world.𝓡 (λ s x. x, λ x. x, λ x. x, λ x. x) in
+    let il = g.met.I.InLane g.world.𝓛 g.world.𝓜 g.world.𝓡 (λ s x. x, λ x. x, λ x. x, λ x. x) in
+    let k = laws g.O.OutLane g.I.InLane ol.same_itself ol.same_later il.same_itself il.same_later in
+    let so = counted_later k c.args.self.now.worker c.loop.self.worker c.wait.new.self.worker c.loop.invariant.waited.counts c.wait.ensures.counts in
+    counted_later k c.args.self.now.worker c.wait.new.self.worker c.take_there.new.self.worker so c.take_there.ensures.counts

@@ -26,7 +26,7 @@ returns-in-Ok-clause-done c =
     let parties = c.requires.led.led.parties in
     let there = slice_get_read nodes (length nodes) c.args.party old refl c.requires.there c.index_mut-node.ensures.value in
     let moves = acted_as (file_in self) nodes c.args.party old c.noted.new.node parties.seats there c.act.new.self c.noted.result c.noted.ensures.rest c.noted.ensures.entry c.in-Ok.ensures.ok in
-    act_redoes self _ (record { file = refl; table = refl; chairs = refl }) c.args.party c.noted.result c.requires.own moves parties
+    act_redoes self _ (record { file = refl; table = refl; chairs = refl; opened = refl }) c.args.party c.noted.result c.requires.own moves parties
     (over_set self.table nodes c.args.party c.noted.new.node c.requires.there parties.over (table_done old c.act.new.self c.noted.new.node _ _ _ _ c.in-Ok.ensures.ok c.noted.ensures.rest ∙ parties.over c.args.party old there))
 
 pub returns-in-Err-clause-done : goal.returns-in-Err-clause-done
@@ -40,7 +40,7 @@ returns-in-Err-clause-none c =
     let parties = c.requires.led.led.parties in
     let there = slice_get_read nodes (length nodes) c.args.party old refl c.requires.there c.index_mut-node.ensures.value in
     if_none c.stopped.result _
-    (rests_by self _ (record { file = refl; table = refl; chairs = refl }) parties
+    (rests_by self _ (record { file = refl; table = refl; chairs = refl; opened = refl }) parties
     (rests (file_in self) nodes c.args.party old c.act.new.self parties.seats there c.in-Err.ensures.err)
     (over_set self.table nodes c.args.party c.act.new.self c.requires.there parties.over (c.in-Err.ensures.err.table ∙ parties.over c.args.party old there)))
 
@@ -52,7 +52,7 @@ returns-in-Err-clause-err c =
     let parties = c.requires.led.led.parties in
     let there = slice_get_read nodes (length nodes) c.args.party old refl c.requires.there c.index_mut-node.ensures.value in
     if_error c.stopped.result _
-    (rests_by self _ (record { file = refl; table = refl; chairs = refl }) parties
+    (rests_by self _ (record { file = refl; table = refl; chairs = refl; opened = refl }) parties
     (rests (file_in self) nodes c.args.party old c.act.new.self parties.seats there c.in-Err.ensures.err)
     (over_set self.table nodes c.args.party c.act.new.self c.requires.there parties.over (c.in-Err.ensures.err.table ∙ parties.over c.args.party old there)))
 

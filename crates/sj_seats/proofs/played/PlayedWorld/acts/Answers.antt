@@ -11,13 +11,13 @@ use Rattle.sj_seats.proofs.played.PlayedWorld.acts.Goals as goal
 
 pub returns-then-is_err-clause-reached : goal.returns-then-is_err-clause-reached
 returns-then-is_err-clause-reached c =
-    reached_listed c.args.self.now _ c.requires.reached (record { file = refl; table = refl; nodes = refl; chairs = refl }) (ap (map line_at) c.reserve.ensures.items)
+    reached_listed c.args.self.now _ c.requires.reached (record { file = refl; table = refl; nodes = refl; chairs = refl; opened = refl }) (ap (map line_at) c.reserve.ensures.items)
 
 pub act-requires-clause-led : goal.act-requires-clause-led
 act-requires-clause-led c =
     let self = c.args.self.now in
-    let mid : PlayedWorld = record { alloc = self.alloc; kept = self.kept; table = self.table; nodes = self.nodes; chairs = self.chairs; history = c.reserve.new.self } in
-    led mid (reached_listed self mid c.requires.reached (record { file = refl; table = refl; nodes = refl; chairs = refl }) (ap (map line_at) c.reserve.ensures.items))
+    let mid : PlayedWorld = record { alloc = self.alloc; kept = self.kept; table = self.table; nodes = self.nodes; chairs = self.chairs; opened = self.opened; history = c.reserve.new.self } in
+    led mid (reached_listed self mid c.requires.reached (record { file = refl; table = refl; nodes = refl; chairs = refl; opened = refl }) (ap (map line_at) c.reserve.ensures.items))
 
 pub returns-in-Ok-Some-clause-tried : goal.returns-in-Ok-Some-clause-tried
 returns-in-Ok-Some-clause-tried c =
@@ -30,21 +30,21 @@ returns-in-Ok-Some-clause-tried c =
 pub returns-in-Ok-Some-clause-reached : goal.returns-in-Ok-Some-clause-reached
 returns-in-Ok-Some-clause-reached c =
     let self = c.args.self.now in
-    let mid : PlayedWorld = record { alloc = self.alloc; kept = self.kept; table = self.table; nodes = self.nodes; chairs = self.chairs; history = c.reserve.new.self } in
+    let mid : PlayedWorld = record { alloc = self.alloc; kept = self.kept; table = self.table; nodes = self.nodes; chairs = self.chairs; opened = self.opened; history = c.reserve.new.self } in
     let l : Line = record { party = c.args.party; entry = c.in-Ok-Some.entry } in
     let made : Redoes mid (line_at l) c.act.new.self =
     some_is c.in-Ok-Some.field-0 c.in-Ok-Some.entry (λ e. Redoes mid (line_with c.args.party e) c.act.new.self) c.in-Ok-Some.field-0-is c.in-Ok-Some.ensures.done in
-    done_listed self mid c.requires.reached (record { file = refl; table = refl; nodes = refl; chairs = refl }) (ap (map line_at) c.reserve.ensures.items)
-    c.act.new.self _ (line_at l) made (record { file = refl; table = refl; nodes = refl; chairs = refl })
+    done_listed self mid c.requires.reached (record { file = refl; table = refl; nodes = refl; chairs = refl; opened = refl }) (ap (map line_at) c.reserve.ensures.items)
+    c.act.new.self _ (line_at l) made (record { file = refl; table = refl; nodes = refl; chairs = refl; opened = refl })
     (listed_more self.history.items c.push_reserved.new.self.items l
     (c.push_reserved.ensures.items ∙ ap (λ v. v.items ++ l ∷ []) c.act.ensures.history ∙ ap (λ t. t ++ l ∷ []) c.reserve.ensures.items))
 
 pub returns-in-Ok-None-clause-tried : goal.returns-in-Ok-None-clause-tried
 returns-in-Ok-None-clause-tried c =
     let self = c.args.self.now in
-    let mid : PlayedWorld = record { alloc = self.alloc; kept = self.kept; table = self.table; nodes = self.nodes; chairs = self.chairs; history = c.reserve.new.self } in
+    let mid : PlayedWorld = record { alloc = self.alloc; kept = self.kept; table = self.table; nodes = self.nodes; chairs = self.chairs; opened = self.opened; history = c.reserve.new.self } in
     let rests : Rests mid c.act.new.self = none_is c.in-Ok-None.field-0 _ c.in-Ok-None.field-0-is c.in-Ok-None.ensures.none in (
-      rests_after self mid c.requires.reached (record { file = refl; table = refl; nodes = refl; chairs = refl }) (ap (map line_at) c.reserve.ensures.items) c.act.new.self rests,
+      rests_after self mid c.requires.reached (record { file = refl; table = refl; nodes = refl; chairs = refl; opened = refl }) (ap (map line_at) c.reserve.ensures.items) c.act.new.self rests,
       ap (λ v. map line_at v.items) c.act.ensures.history ∙ ap (map line_at) c.reserve.ensures.items,
       stays_still mid c.act.new.self c.args.party rests (none_is c.in-Ok-None.field-0 (IsStill mid c.args.party) c.in-Ok-None.field-0-is c.in-Ok-None.ensures.still),
     )
@@ -52,14 +52,14 @@ returns-in-Ok-None-clause-tried c =
 pub returns-in-Ok-None-clause-reached : goal.returns-in-Ok-None-clause-reached
 returns-in-Ok-None-clause-reached c =
     let self = c.args.self.now in
-    let mid : PlayedWorld = record { alloc = self.alloc; kept = self.kept; table = self.table; nodes = self.nodes; chairs = self.chairs; history = c.reserve.new.self } in
+    let mid : PlayedWorld = record { alloc = self.alloc; kept = self.kept; table = self.table; nodes = self.nodes; chairs = self.chairs; opened = self.opened; history = c.reserve.new.self } in
     let rests : Rests mid c.act.new.self = none_is c.in-Ok-None.field-0 _ c.in-Ok-None.field-0-is c.in-Ok-None.ensures.none in
-    none_listed self mid c.requires.reached (record { file = refl; table = refl; nodes = refl; chairs = refl }) (ap (map line_at) c.reserve.ensures.items) c.act.new.self rests
+    none_listed self mid c.requires.reached (record { file = refl; table = refl; nodes = refl; chairs = refl; opened = refl }) (ap (map line_at) c.reserve.ensures.items) c.act.new.self rests
     (ap (λ v. map line_at v.items) c.act.ensures.history ∙ ap (map line_at) c.reserve.ensures.items)
 
 pub returns-in-Err-clause-reached : goal.returns-in-Err-clause-reached
 returns-in-Err-clause-reached c =
     let self = c.args.self.now in
-    let mid : PlayedWorld = record { alloc = self.alloc; kept = self.kept; table = self.table; nodes = self.nodes; chairs = self.chairs; history = c.reserve.new.self } in
-    none_listed self mid c.requires.reached (record { file = refl; table = refl; nodes = refl; chairs = refl }) (ap (map line_at) c.reserve.ensures.items) c.act.new.self c.in-Err.ensures.err
+    let mid : PlayedWorld = record { alloc = self.alloc; kept = self.kept; table = self.table; nodes = self.nodes; chairs = self.chairs; opened = self.opened; history = c.reserve.new.self } in
+    none_listed self mid c.requires.reached (record { file = refl; table = refl; nodes = refl; chairs = refl; opened = refl }) (ap (map line_at) c.reserve.ensures.items) c.act.new.self c.in-Err.ensures.err
     (ap (λ v. map line_at v.items) c.act.ensures.history ∙ ap (map line_at) c.reserve.ensures.items)

@@ -1,7 +1,10 @@
 use Rattle.std.proofs.Common.{◌∙◌, ap, length, refl, sym, Some}
 use Rattle.std.proofs.lemmas.Option.{slice_get_read}
 use Rattle.sj_seats.proofs.AnswerLemmas.{done_so, error_so, none_so}
-use Rattle.sj_seats.proofs.CallingLemmas.{call_redoes, call_rests}
+use Rattle.sj_seats.proofs.CallingLemmas.{call_makes}
+use Rattle.sj_seats.proofs.MakingLemmas.{make_redoes}
+use Rattle.sj_seats.proofs.SittingLemmas.{call_rests}
+use Rattle.sj_seats.specs.Played.{opened_in}
 use Rattle.sj_seats.proofs.RunLemmas.{low_node}
 use Rattle.sj_seats.proofs.played.PlayedWorld.call.Goals as goal
 
@@ -23,7 +26,10 @@ returns-in-Some-index_mut-clause-done c =
     let there = slice_get_read nodes (length nodes) c.args.party old refl c.requires.there c.index_mut-in-Some-index_mut.ensures.value in
     let sits = slice_get_read chairs (length nodes) c.args.party c.index_mut.result.now (sym parties.count) c.requires.there c.index_mut.ensures.value ∙ ap Some c.in-Some-index_mut.is in
     done_so c.make.result _ _
-    (λ e x. call_redoes self _ c.args.party old c.make.new.node c.in-Some-index_mut.chair c.make.new.chair _ e x parties there sits refl refl refl refl) c.make.ensures.done
+    (λ e x same.
+    let made = call_makes self.table (opened_in self c.args.party) old c.make.new.node c.in-Some-index_mut.chair c.make.new.chair _ e (parties.over c.args.party old there) x in
+    make_redoes self _ c.args.party old c.make.new.node c.in-Some-index_mut.chair c.make.new.chair _ e made parties there sits refl refl refl refl refl)
+    c.make.ensures.done
 
 pub returns-in-Some-index_mut-clause-none : goal.returns-in-Some-index_mut-clause-none
 returns-in-Some-index_mut-clause-none c =
@@ -35,7 +41,7 @@ returns-in-Some-index_mut-clause-none c =
     let there = slice_get_read nodes (length nodes) c.args.party old refl c.requires.there c.index_mut-in-Some-index_mut.ensures.value in
     let sits = slice_get_read chairs (length nodes) c.args.party c.index_mut.result.now (sym parties.count) c.requires.there c.index_mut.ensures.value ∙ ap Some c.in-Some-index_mut.is in
     none_so c.make.result _ _
-    (λ x. call_rests self _ c.args.party old c.make.new.node c.in-Some-index_mut.chair c.make.new.chair x parties there sits refl refl refl refl) c.make.ensures.none
+    (λ x. call_rests self _ c.args.party old c.make.new.node c.in-Some-index_mut.chair c.make.new.chair x parties there sits refl refl refl refl refl) c.make.ensures.none
 
 pub returns-in-Some-index_mut-clause-err : goal.returns-in-Some-index_mut-clause-err
 returns-in-Some-index_mut-clause-err c =
@@ -47,4 +53,4 @@ returns-in-Some-index_mut-clause-err c =
     let there = slice_get_read nodes (length nodes) c.args.party old refl c.requires.there c.index_mut-in-Some-index_mut.ensures.value in
     let sits = slice_get_read chairs (length nodes) c.args.party c.index_mut.result.now (sym parties.count) c.requires.there c.index_mut.ensures.value ∙ ap Some c.in-Some-index_mut.is in
     error_so c.make.result _ _
-    (λ x. call_rests self _ c.args.party old c.make.new.node c.in-Some-index_mut.chair c.make.new.chair x parties there sits refl refl refl refl) c.make.ensures.err
+    (λ x. call_rests self _ c.args.party old c.make.new.node c.in-Some-index_mut.chair c.make.new.chair x parties there sits refl refl refl refl refl) c.make.ensures.err

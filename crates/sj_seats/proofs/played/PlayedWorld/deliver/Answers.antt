@@ -21,7 +21,7 @@ returns-in_default-clause-none c =
     let giver = c.index_mut.result.now in
     let parties = c.requires.led.led.parties in
     let there = slice_get_read nodes (length nodes) c.args.from giver refl c.requires.origin c.index_mut.ensures.value in
-    rests_by self _ (record { file = refl; table = refl; chairs = refl }) parties
+    rests_by self _ (record { file = refl; table = refl; chairs = refl; opened = refl }) parties
     (nothing_taken (file_in self) nodes c.args.party c.args.from giver c.take_out.new.self parties.seats there
     c.in_default.ensures.none c.in_default.ensures.empty c.take_out.ensures.others c.take_out.ensures.rest)
     (over_set self.table nodes c.args.from c.take_out.new.self c.requires.origin parties.over (c.take_out.ensures.rest.table ∙ parties.over c.args.from giver there))
@@ -46,7 +46,7 @@ returns-in-Ok-clause-done c =
     let long = length-set nodes c.args.from short in
     let here = slice_get_read some (length nodes) c.args.party old (sym long) c.requires.there c.index_mut-node.ensures.value in
     let between = over_set self.table nodes c.args.from short c.requires.origin parties.over (c.take_out.ensures.rest.table ∙ parties.over c.args.from giver there) in
-    delivery_redoes self _ (record { file = refl; table = refl; chairs = refl }) c.args.party c.args.from c.noted.result
+    delivery_redoes self _ (record { file = refl; table = refl; chairs = refl; opened = refl }) c.args.party c.args.from c.noted.result
     (delivered_as (file_in self) nodes c.args.party c.args.from giver short c.in-Some.frame parties.seats there
     c.in-Some.ensures.some c.take_out.ensures.others c.take_out.ensures.rest
     old c.noted.new.node here c.deliver.new.self c.noted.result c.noted.ensures.rest c.noted.ensures.entry c.in-Ok.ensures.ok)
@@ -73,7 +73,7 @@ returns-in-Err-clause-err c =
     let again = slice_get_read more (length nodes) c.args.from back (sym (length-set some c.args.party new ∙ long)) c.requires.origin c.index_mut-in-Err.ensures.value in
     let between = over_set self.table nodes c.args.from short c.requires.origin parties.over (c.take_out.ensures.rest.table ∙ parties.over c.args.from giver there) in
     let over = over_set self.table some c.args.party new (Rattle.std.proofs.lemmas.Option.slice_get_within some c.args.party old here) between (c.in-Err.ensures.err.table ∙ between c.args.party old here) in
-    rests_by self _ (record { file = refl; table = refl; chairs = refl }) parties
+    rests_by self _ (record { file = refl; table = refl; chairs = refl; opened = refl }) parties
     (put_back (file_in self) nodes c.args.party c.args.from giver short c.in-Some.frame parties.seats there
     c.in-Some.ensures.some c.take_out.ensures.others c.take_out.ensures.rest
     old new here c.in-Err.ensures.err back last again

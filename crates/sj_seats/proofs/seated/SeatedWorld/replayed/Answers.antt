@@ -1,7 +1,10 @@
 use Rattle.std.proofs.Common.{Bool, ℕ, map, subst}
 use Rattle.sj_core.specs.Views.{line_at}
 use Rattle.sj_lang.specs.FileAt.{FileAt}
-use Rattle.sj_seats.specs.Played.{file_in}
+use Rattle.sj_seats.specs.Calls.{OpenedAs}
+use Rattle.sj_seats.specs.Openings.{opened_by}
+use Rattle.sj_seats.specs.Played.{chairs_in, file_in}
+use Rattle.sj_seats.specs.Core.{is_seat}
 use Rattle.sj_seats.specs.Replaying.{IsMisfitFrom}
 use Rattle.sj_seats.specs.Seated.{seat_in}
 use Rattle.sj_seats.proofs.ReplayLemmas.{run_told}
@@ -14,5 +17,7 @@ pub returns-in-Err-clause-misfit : goal.returns-in-Err-clause-misfit
 returns-in-Err-clause-misfit c =
     let begun = c.in_ok-played_world in
     let lines = map line_at c.args.lines.items in
-    subst (λ (f : FileAt). IsMisfitFrom f (seat_in c.args.seats.now) lines c.in-Err.refusal) begun.ensures.file
-    (subst (λ (s : ℕ → Bool). IsMisfitFrom (file_in begun.played_world) s lines c.in-Err.refusal) (λ i q. begun.ensures.seats q i) c.in-Err.ensures.misfit)
+    let told = opened_by c.args.opened.items in
+    subst (λ (f : FileAt). IsMisfitFrom f (seat_in c.args.seats.now) told lines c.in-Err.refusal) begun.ensures.file
+    (subst (λ (s : ℕ → Bool). IsMisfitFrom (file_in begun.played_world) s told lines c.in-Err.refusal) (λ i q. begun.ensures.seats q i)
+    (subst (λ (o : OpenedAs). IsMisfitFrom (file_in begun.played_world) (is_seat (chairs_in begun.played_world)) o lines c.in-Err.refusal) (λ i q s. begun.ensures.opened q s i) c.in-Err.ensures.misfit))
