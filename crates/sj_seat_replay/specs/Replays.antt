@@ -8,6 +8,7 @@ use Rattle.sj_log.specs.declared.refusal.LogRefusal.{LogRefusal}
 use Rattle.sj_log.specs.declared.refusal.LogRefusal.TheVariants as logs
 use Rattle.sj_plain.specs.Kept.{without_words}
 use Rattle.sj_rules.specs.Log.{LineAt}
+use Rattle.sj_seats.specs.Calls.{OpenedAs}
 use Rattle.sj_seats.specs.Replaying.{IsStop}
 use Rattle.sj_seat_replay.specs.declared.refusal.SeatReplayRefusal.{SeatReplayRefusal}
 use Rattle.sj_seat_replay.specs.declared.refusal.SeatReplayRefusal.TheVariants as refusals
@@ -37,9 +38,9 @@ IsTableRefused (refusals.Text rule line) = ⊥
 IsTableRefused (refusals.Entry m) = ⊥
 
 -- the log isn't in its grammar, or that is the first of its lines which isn't the one that is due
-abbrev pub IsReplayRefused : (version : ℕ) → FileAt → (seats : ℕ → Bool) → (log : List ℕ) → SeatReplayRefusal → Type 0
-IsReplayRefused version file seats log (refusals.Text rule line) = fault_of (log_read version file log) ≡ Some (rule, line)
-IsReplayRefused version file seats log (refusals.Entry m) =
-    (lines : List LineAt) × SpellsLog version file log lines × IsStop (without_words file) seats lines m
-IsReplayRefused version file seats log refusals.LacksPlace = ⊤
-IsReplayRefused version file seats log refusals.NoMemory = ⊤
+abbrev pub IsReplayRefused : (version : ℕ) → FileAt → (seats : ℕ → Bool) → OpenedAs → (log : List ℕ) → SeatReplayRefusal → Type 0
+IsReplayRefused version file seats opened log (refusals.Text rule line) = fault_of (log_read version file log) ≡ Some (rule, line)
+IsReplayRefused version file seats opened log (refusals.Entry m) =
+    (lines : List LineAt) × SpellsLog version file log lines × IsStop (without_words file) seats opened lines m
+IsReplayRefused version file seats opened log refusals.LacksPlace = ⊤
+IsReplayRefused version file seats opened log refusals.NoMemory = ⊤

@@ -11,7 +11,8 @@ ghost use Rattle.sj_print.specs.Version.{IsVersion};
 ghost use Rattle.sj_seat.specs.Places.{CarriesPlaces};
 ghost use Rattle.sj_seat_replay.specs.Replays.{IsReplayRefused, IsTableRefused, IsTextRefused};
 ghost use Rattle.sj_seat_told_laws.specs.SeatsHistory.{IsSeatsHistory};
-ghost use Rattle.sj_seats.specs.Seated.{callers_of, core_of, history_of, kept_file, party_count, seat_in, seats_of};
+ghost use Rattle.sj_seats.specs.Openings.{opened_by};
+ghost use Rattle.sj_seats.specs.Seated.{callers_of, core_of, history_of, kept_file, opened_of, party_count, seat_in, seats_of};
 ghost use Rattle.sj_table.specs.Spots.{start_in};
 
 use crate::refusal::SeatReplayRefusal;
@@ -19,7 +20,7 @@ use sj_base::NoMemory;
 use sj_check::Accepted;
 use sj_end::Line;
 use sj_log::read_log;
-use sj_seat::seat_table;
+use sj_seat::{OpenedSession, seat_table};
 use sj_seats::SeatedWorld;
 use sj_table::Table;
 use std::alloc::Global;
@@ -58,12 +59,15 @@ fn table_of(alloc: Global, accepted: &Accepted) -> Result<Table, SeatReplayRefus
 
 /// The world to which a log of that version leads from the file's start on, where of each party
 /// `seats` has whether code played it. The log has the calls of the code, so no code is asked. Its
-/// file says nothing of seats, and another choice of them is another replay. Takes time linear in
-/// the log, but for the look-up of names.
+/// file says nothing of seats, and another choice of them is another replay. A line names no
+/// protocol, so `opened` has for each party as which protocols its code opened its sessions. What it
+/// lacks counts as protocol 0. Takes time linear in the log, but for the look-up of names and of
+/// opened sessions.
 pub fn replay_seated(
     alloc: Global,
     accepted: &Accepted,
     seats: &[bool],
+    opened: Vec<Vec<OpenedSession>>,
     version: u8,
     log: &[u8],
 ) -> Result<SeatedWorld, SeatReplayRefusal>
@@ -75,17 +79,18 @@ pub fn replay_seated(
     ensures kept { IfOk result (λ w. kept_file w ≡ without_words (file_of (file_in accepted.now))) }
     ensures spells { IfOk result (λ w. SpellsLog version (file_of (file_in accepted.now)) log.now (history_of w)) }
     ensures seats { IfOk result (λ w. (q : ℕ) → seats_of w q ≡ seat_in seats.now q) }
+    ensures opened { IfOk result (λ w. (q sess : ℕ) → opened_of w q sess ≡ opened_by opened.items q sess) }
 
     // What is true of every world.
     ensures run { IfOk result (λ w. IsSeatsHistory max (kept_file w) (callers_of w) (history_of w) (core_of w)) }
     ensures parties { IfOk result (λ w. party_count w ≡ length (kept_file w).parties) }
 
     // The first line that isn't in the grammar, or else the first that isn't the one that is due.
-    ensures refused { IfErr result (IsReplayRefused version (file_of (file_in accepted.now)) (seat_in seats.now) log.now) }
+    ensures refused { IfErr result (IsReplayRefused version (file_of (file_in accepted.now)) (seat_in seats.now) (opened_by opened.items) log.now) }
 {
     let lines = lines_of(alloc, accepted, version, log)?;
     let table = table_of(alloc, accepted)?;
-    match SeatedWorld::replayed(alloc, accepted, &table, seats, lines) {
+    match SeatedWorld::replayed(alloc, accepted, &table, seats, opened, lines) {
         Ok(world) => Ok(world),
         Err(refusal) => Err(SeatReplayRefusal::from(refusal)),
     }

@@ -130,7 +130,8 @@ fn replayed(
     if log.len() > MOST_BYTES {
         return Err(Fail::from("too long"));
     }
-    Ok(replay_seated(alloc, accepted, &seats, version, log))
+    let opened = Vec::new(alloc);
+    Ok(replay_seated(alloc, accepted, &seats, opened, version, log))
 }
 
 #[test]
