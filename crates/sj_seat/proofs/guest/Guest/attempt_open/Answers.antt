@@ -66,3 +66,9 @@ returns-in-Ok-clause-counts g c =
     let il = g.met.I.InLane g.world.𝓛 g.world.𝓜 g.world.𝓡 (λ s x. x, λ x. x, λ x. x, λ x. x) in
     let k = laws g.O.OutLane g.I.InLane ol.same_itself ol.same_later il.same_itself il.same_later in
     counted_later k c.args.self.now.worker c.make_open.new.self.worker c.wait.new.self.worker c.in-Ok.ensures.counts c.wait.ensures.counts
+
+pub returns-in-Err-clause-cause : goal.returns-in-Err-clause-cause
+returns-in-Err-clause-cause g c = c.refused.ensures (open_wished c.args.wish) c.in-Err.ensures.cause
+
+pub returns-in-Err-clause-waits : goal.returns-in-Err-clause-waits
+returns-in-Err-clause-waits g c = λ is. ap kept_stop c.in-Err.ensures.stop ∙ c.stopped.ensures.none c.in_default.is
