@@ -155,3 +155,35 @@ returns-in-Some-clause-rests g c =
       | else-is_due w ↦ subst (Waited g.O.OutLane g.I.InLane a) (sym w.self-is) c.loop.invariant
     ] in
     waited_rests k a j c.wait.new.self waited c.wait.ensures.rests
+
+pub returns-then-not-is_waiting-clause-cause : goal.returns-then-not-is_waiting-clause-cause
+returns-then-not-is_waiting-clause-cause g c = c.attempt-answer.ensures.cause
+
+pub returns-then-not-is_waiting-clause-takes : goal.returns-then-not-is_waiting-clause-takes
+returns-then-not-is_waiting-clause-takes g c = c.attempt-answer.ensures.takes
+
+pub returns-then-not-is_waiting-clause-tells : goal.returns-then-not-is_waiting-clause-tells
+returns-then-not-is_waiting-clause-tells g c = c.attempt-answer.ensures.tells
+
+pub returns-then-not-is_waiting-clause-keeps : goal.returns-then-not-is_waiting-clause-keeps
+returns-then-not-is_waiting-clause-keeps g c =
+    let ol = g.met.O.OutLane g.world.𝓛 g.world.𝓜 g.world.𝓡 (λ s x. x, λ x. x, λ x. x, λ x. x) in
+    let il = g.met.I.InLane g.world.𝓛 g.world.𝓜 g.world.𝓡 (λ s x. x, λ x. x, λ x. x, λ x. x) in
+    let k = laws g.O.OutLane g.I.InLane ol.same_itself ol.same_later il.same_itself il.same_later in
+    waited_keeps k c.args.self.now c.loop.self c.attempt-answer.new.self c.loop.invariant c.attempt-answer.ensures.keeps
+
+pub returns-clause-cause : goal.returns-clause-cause
+returns-clause-cause g c = c.attempt.ensures.cause
+
+pub returns-clause-takes : goal.returns-clause-takes
+returns-clause-takes g c = c.attempt.ensures.takes
+
+pub returns-clause-tells : goal.returns-clause-tells
+returns-clause-tells g c = c.attempt.ensures.tells
+
+pub returns-clause-keeps : goal.returns-clause-keeps
+returns-clause-keeps g c =
+    let ol = g.met.O.OutLane g.world.𝓛 g.world.𝓜 g.world.𝓡 (λ s x. x, λ x. x, λ x. x, λ x. x) in
+    let il = g.met.I.InLane g.world.𝓛 g.world.𝓜 g.world.𝓡 (λ s x. x, λ x. x, λ x. x, λ x. x) in
+    let k = laws g.O.OutLane g.I.InLane ol.same_itself ol.same_later il.same_itself il.same_later in
+    waited_keeps k c.args.self.now c.loop.self c.attempt.new.self c.loop.invariant c.attempt.ensures.keeps
