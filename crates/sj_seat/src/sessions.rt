@@ -24,7 +24,7 @@ use sj_base::EndId;
 use sj_lane::{InLane, OutLane};
 use sj_node::Halt;
 use sj_table::Spot;
-use sj_work::{Gate, Stop};
+use sj_work::Gate;
 
 impl<O: OutLane, I: InLane, G: Gate> Guest<'_, O, I, G> {
     /// Requests a session of the protocol at that party; the party's own end of it, which it holds
@@ -161,11 +161,7 @@ impl<O: OutLane, I: InLane, G: Gate> Guest<'_, O, I, G> {
                 let _ = self.wait();
                 Ok(end)
             }
-            Err(Halt::Waits) => Err(SeatRefusal::Waiting),
-            Err(Halt::AtLimit) => Err(SeatRefusal::AtLimit),
-            Err(Halt::NoMemory) => Err(SeatRefusal::NoMemory),
-            Err(Halt::Unfit) => Err(SeatRefusal::Stopped(Stop::Unfit)),
-            Err(Halt::Ended) => unreachable!(),
+            Err(halt) => Err(self.refused(halt)),
         }
     }
 

@@ -118,6 +118,18 @@ impl<O: OutLane, I: InLane, G: Gate> Guest<'_, O, I, G> {
         }
     }
 
+    /// Why a call isn't done that the node refused so.
+    pub(crate) fn refused(&self, halt: Halt) -> SeatRefusal
+        ensures { (c : calls.Call) → IsHalt halt c self.now → IsHeldUp result c self.now }
+    {
+        match halt {
+            Halt::Waits => SeatRefusal::Waiting,
+            Halt::AtLimit => SeatRefusal::AtLimit,
+            Halt::Unfit => SeatRefusal::Stopped(Stop::Unfit),
+            Halt::NoMemory | Halt::Ended => SeatRefusal::NoMemory,
+        }
+    }
+
     /// Does the call, where it can be done now, and pushes what waits then.
     pub(crate) fn attempt(&mut self, call: Call) -> Result<Option<Msg>, SeatRefusal>
         requires guarded { IsGuarded (table_of self.old) (may_of self.old) (ends_of self.old)
@@ -155,11 +167,7 @@ impl<O: OutLane, I: InLane, G: Gate> Guest<'_, O, I, G> {
                 self.settle(posts(&msg));
                 Ok(msg)
             }
-            Err(Halt::Waits) => Err(SeatRefusal::Waiting),
-            Err(Halt::AtLimit) => Err(SeatRefusal::AtLimit),
-            Err(Halt::NoMemory) => Err(SeatRefusal::NoMemory),
-            Err(Halt::Unfit) => Err(SeatRefusal::Stopped(Stop::Unfit)),
-            Err(Halt::Ended) => unreachable!(),
+            Err(halt) => Err(self.refused(halt)),
         }
     }
 
@@ -187,15 +195,25 @@ impl<O: OutLane, I: InLane, G: Gate> Guest<'_, O, I, G> {
         ensures cause { IfErr result (λ r. IsHeldUp r (asked call) self.new) }
     {
         for _ in 0..self.looks {
-            let answer = self.attempt(call);
-            if !is_waiting(&answer) {
-                return answer;
+            if self.is_due(call) {
+                let answer = self.attempt(call);
+                if !is_waiting(&answer) {
+                    return answer;
+                }
             }
             if let Some(stop) = self.wait() {
                 return Err(SeatRefusal::Stopped(stop));
             }
         }
         self.attempt(call)
+    }
+
+    // Whether the call is worth an attempt. A take is once a message is there.
+    fn is_due(&self, call: Call) -> bool {
+        match call {
+            Call::Take { end, .. } => self.worker.node().head(end).is_some(),
+            _ => true,
+        }
     }
 }
 

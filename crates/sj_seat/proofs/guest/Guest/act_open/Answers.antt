@@ -2,7 +2,7 @@ use Rattle.std.proofs.Common.{◌≡◌, ◌∷◌, Err}
 use Rattle.sj_work.proofs.LaneLaws.{laws}
 use Rattle.sj_seat.specs.Wishes.{open_wished}
 use Rattle.sj_seat.specs.declared.refusal.SeatRefusal.TheVariants as refusals
-use Rattle.sj_seat.proofs.AfterLemmas.{waited_ends, waited_err, waited_more, waited_none, waited_ok, waited_then, waited_vain}
+use Rattle.sj_seat.proofs.AfterLemmas.{waited_ends, waited_err, waited_keeps, waited_more, waited_none, waited_ok, waited_then, waited_vain}
 use Rattle.sj_seat.proofs.CountLemmas.{counted_later}
 use Rattle.sj_seat.proofs.guest.Guest.act_open.Goals as goal
 
@@ -109,3 +109,29 @@ returns-clause-ends g c =
     let il = g.met.I.InLane g.world.𝓛 g.world.𝓜 g.world.𝓡 (λ s x. x, λ x. x, λ x. x, λ x. x) in
     let k = laws g.O.OutLane g.I.InLane ol.same_itself ol.same_later il.same_itself il.same_later in
     waited_ends k c.args.self.now c.loop.self c.attempt_open.new.self (open_wished c.args.wish) c.attempt_open.result c.loop.invariant c.attempt_open.ensures.ends
+
+pub returns-then-not-is_waiting-clause-cause : goal.returns-then-not-is_waiting-clause-cause
+returns-then-not-is_waiting-clause-cause g c = c.attempt_open-answer.ensures.cause
+
+pub returns-then-not-is_waiting-clause-opened : goal.returns-then-not-is_waiting-clause-opened
+returns-then-not-is_waiting-clause-opened g c = c.attempt_open-answer.ensures.opened
+
+pub returns-then-not-is_waiting-clause-keeps : goal.returns-then-not-is_waiting-clause-keeps
+returns-then-not-is_waiting-clause-keeps g c =
+    let ol = g.met.O.OutLane g.world.𝓛 g.world.𝓜 g.world.𝓡 (λ s x. x, λ x. x, λ x. x, λ x. x) in
+    let il = g.met.I.InLane g.world.𝓛 g.world.𝓜 g.world.𝓡 (λ s x. x, λ x. x, λ x. x, λ x. x) in
+    let k = laws g.O.OutLane g.I.InLane ol.same_itself ol.same_later il.same_itself il.same_later in
+    waited_keeps k c.args.self.now c.loop.self c.attempt_open-answer.new.self c.loop.invariant c.attempt_open-answer.ensures.keeps
+
+pub returns-clause-cause : goal.returns-clause-cause
+returns-clause-cause g c = c.attempt_open.ensures.cause
+
+pub returns-clause-opened : goal.returns-clause-opened
+returns-clause-opened g c = c.attempt_open.ensures.opened
+
+pub returns-clause-keeps : goal.returns-clause-keeps
+returns-clause-keeps g c =
+    let ol = g.met.O.OutLane g.world.𝓛 g.world.𝓜 g.world.𝓡 (λ s x. x, λ x. x, λ x. x, λ x. x) in
+    let il = g.met.I.InLane g.world.𝓛 g.world.𝓜 g.world.𝓡 (λ s x. x, λ x. x, λ x. x, λ x. x) in
+    let k = laws g.O.OutLane g.I.InLane ol.same_itself ol.same_later il.same_itself il.same_later in
+    waited_keeps k c.args.self.now c.loop.self c.attempt_open.new.self c.loop.invariant c.attempt_open.ensures.keeps

@@ -1,4 +1,4 @@
-use Rattle.std.proofs.Common.{◌≡◌, ◌∙◌, ◌∷◌, None, ap, refl, subst, sym}
+use Rattle.std.proofs.Common.{◌≡◌, ◌∙◌, ◌∷◌, None, ap, arith, inl, refl, subst, sym}
 use Rattle.sj_work.specs.Views.{stop_of}
 use Rattle.sj_work.specs.Worked.{kept_stop}
 use Rattle.sj_work.proofs.LaneLaws.{laws}
@@ -7,31 +7,53 @@ use Rattle.sj_seat.specs.Asked.{asked}
 use Rattle.sj_seat.specs.Holding.{ends_at}
 use Rattle.sj_seat.specs.Views.{may_of, seat_of}
 use Rattle.sj_seat.specs.Went.{SeatWork}
-use Rattle.sj_seat.proofs.AfterLemmas.{done_after, nothing_done}
+use Rattle.sj_seat.proofs.AfterLemmas.{done_after, keeps_later, nothing_done}
 use Rattle.sj_seat.proofs.CountLemmas.{counted_itself, counted_later}
 use Rattle.sj_seat.proofs.TakenLemmas.{tells_still}
 use Rattle.sj_seat.proofs.guest.Guest.attempt.Goals as goal
 
-pub returns-in-Some-clause-err : goal.returns-in-Some-clause-err
-returns-in-Some-clause-err g c =
+pub returns-in-Some : goal.returns-in-Some
+returns-in-Some g c =
     let ol = g.met.O.OutLane g.world.𝓛 g.world.𝓜 g.world.𝓡 (λ s x. x, λ x. x, λ x. x, λ x. x) in
     let il = g.met.I.InLane g.world.𝓛 g.world.𝓜 g.world.𝓡 (λ s x. x, λ x. x, λ x. x, λ x. x) in
     let k = laws g.O.OutLane g.I.InLane ol.same_itself ol.same_later il.same_itself il.same_later in
     let a = c.args.self.now in
-    λ file rest parties. nothing_done k file (seat_of rest a) (seat_of rest a) a.worker refl
+    record {
+      ok = λ file rest parties. tt;
+      err = λ file rest parties. nothing_done k file (seat_of rest a) (seat_of rest a) a.worker refl;
+      rests = record { ends = refl; calls = refl; may = refl };
+      takes = tt;
+      tells = tt;
+      stays = record { node = refl; posts = λ q. refl; log = refl; table = refl; party = refl; parties = refl; connects = refl };
+      keeps = record { party = refl; parties = refl; connects = refl; table = refl; clock = omega arith };
+      counts = counted_itself k a.worker;
+      cause = inl c.in-Some.ensures.some;
+      waits = λ is. absurd (cc is);
+    }
 
-pub returns-then-is_err-clause-err : goal.returns-then-is_err-clause-err
-returns-then-is_err-clause-err g c =
+pub returns-then-is_err : goal.returns-then-is_err
+returns-then-is_err g c =
     let ol = g.met.O.OutLane g.world.𝓛 g.world.𝓜 g.world.𝓡 (λ s x. x, λ x. x, λ x. x, λ x. x) in
     let il = g.met.I.InLane g.world.𝓛 g.world.𝓜 g.world.𝓡 (λ s x. x, λ x. x, λ x. x, λ x. x) in
     let k = laws g.O.OutLane g.I.InLane ol.same_itself ol.same_later il.same_itself il.same_later in
     let a = c.args.self.now in
-    λ file rest parties.
-    let after : SeatedAt = record { ends = ends_at a.table c.reserve.new.self.items; steps = a.calls; calls = rest; may = may_of a } in
-    nothing_done k file (seat_of rest a) after a.worker (λ i. record { ends = ends_at a.table (c.reserve.ensures.items i); steps = a.calls; calls = rest; may = may_of a })
+    record {
+      ok = λ file rest parties. tt;
+      err = λ file rest parties.
+          let after : SeatedAt = record { ends = ends_at a.table c.reserve.new.self.items; steps = a.calls; calls = rest; may = may_of a } in
+          nothing_done k file (seat_of rest a) after a.worker (λ i. record { ends = ends_at a.table (c.reserve.ensures.items i); steps = a.calls; calls = rest; may = may_of a });
+      rests = record { ends = ap (ends_at a.table) c.reserve.ensures.items; calls = refl; may = refl };
+      takes = tt;
+      tells = tt;
+      stays = record { node = refl; posts = λ q. refl; log = refl; table = refl; party = refl; parties = refl; connects = refl };
+      keeps = record { party = refl; parties = refl; connects = refl; table = refl; clock = omega arith };
+      counts = counted_itself k a.worker;
+      cause = tt;
+      waits = λ is. absurd (cc is);
+    }
 
-pub returns-in-Ok-clause-ok : goal.returns-in-Ok-clause-ok
-returns-in-Ok-clause-ok g c =
+pub returns-in-Ok : goal.returns-in-Ok
+returns-in-Ok g c =
     let ol = g.met.O.OutLane g.world.𝓛 g.world.𝓜 g.world.𝓡 (λ s x. x, λ x. x, λ x. x, λ x. x) in
     let il = g.met.I.InLane g.world.𝓛 g.world.𝓜 g.world.𝓡 (λ s x. x, λ x. x, λ x. x, λ x. x) in
     let k = laws g.O.OutLane g.I.InLane ol.same_itself ol.same_later il.same_itself il.same_later in
@@ -40,34 +62,39 @@ returns-in-Ok-clause-ok g c =
     let b = c.settle.new.self in
     let h = c.in-Ok.ensures in
     let kept : kept_stop (stop_of m.worker) ≡ None = ap kept_stop h.stop ∙ c.stopped.ensures.none c.in_default.is in
-    λ file rest parties.
-    let before = seat_of (asked c.args.call ∷ rest) a in
-    let made : SeatWork g.O.OutLane g.I.InLane file before (seat_of rest m) a.worker m.worker =
-    subst (λ (s : SeatedAt). SeatWork g.O.OutLane g.I.InLane file s (seat_of rest m) a.worker m.worker)
-    (λ i. record { ends = ends_at a.table (c.reserve.ensures.items i); steps = a.calls; calls = asked c.args.call ∷ rest; may = may_of a }) (h.ok file rest parties) in
-    done_after k file before (seat_of rest m) (seat_of rest b) a.worker m.worker b.worker kept h.keeps.party made (c.settle.ensures.went file rest (parties ∙ sym h.keeps.parties))
+    record {
+      ok = λ file rest parties.
+          let before = seat_of (asked c.args.call ∷ rest) a in
+          let made : SeatWork g.O.OutLane g.I.InLane file before (seat_of rest m) a.worker m.worker =
+          subst (λ (s : SeatedAt). SeatWork g.O.OutLane g.I.InLane file s (seat_of rest m) a.worker m.worker)
+          (λ i. record { ends = ends_at a.table (c.reserve.ensures.items i); steps = a.calls; calls = asked c.args.call ∷ rest; may = may_of a }) (h.ok file rest parties) in
+          done_after k file before (seat_of rest m) (seat_of rest b) a.worker m.worker b.worker kept h.keeps.party made (c.settle.ensures.went file rest (parties ∙ sym h.keeps.parties));
+      err = λ file rest parties. tt;
+      rests = tt;
+      takes = h.takes;
+      tells = tells_still m.worker b.worker (asked c.args.call) c.in-Ok.msg c.settle.ensures.acts h.tells;
+      stays = tt;
+      keeps = keeps_later a.worker.node m.worker.node b.worker.node h.keeps c.settle.ensures.keeps;
+      counts = counted_later k a.worker m.worker b.worker h.counts c.settle.ensures.counts;
+      cause = tt;
+      waits = λ is. absurd (cc is);
+    }
 
-pub returns-in-Ok-clause-tells : goal.returns-in-Ok-clause-tells
-returns-in-Ok-clause-tells g c =
-    tells_still c.make.new.self.worker c.settle.new.self.worker (asked c.args.call) c.in-Ok.msg c.settle.ensures.acts c.in-Ok.ensures.tells
-
-pub returns-in-Some-clause-counts : goal.returns-in-Some-clause-counts
-returns-in-Some-clause-counts g c =
-    let ol = g.met.O.OutLane g.world.𝓛 g.world.𝓜 g.world.𝓡 (λ s x. x, λ x. x, λ x. x, λ x. x) in
-    let il = g.met.I.InLane g.world.𝓛 g.world.𝓜 g.world.𝓡 (λ s x. x, λ x. x, λ x. x, λ x. x) in
-    let k = laws g.O.OutLane g.I.InLane ol.same_itself ol.same_later il.same_itself il.same_later in
-    counted_itself k c.args.self.now.worker
-
-pub returns-then-is_err-clause-counts : goal.returns-then-is_err-clause-counts
-returns-then-is_err-clause-counts g c =
-    let ol = g.met.O.OutLane g.world.𝓛 g.world.𝓜 g.world.𝓡 (λ s x. x, λ x. x, λ x. x, λ x. x) in
-    let il = g.met.I.InLane g.world.𝓛 g.world.𝓜 g.world.𝓡 (λ s x. x, λ x. x, λ x. x, λ x. x) in
-    let k = laws g.O.OutLane g.I.InLane ol.same_itself ol.same_later il.same_itself il.same_later in
-    counted_itself k c.args.self.now.worker
-
-pub returns-in-Ok-clause-counts : goal.returns-in-Ok-clause-counts
-returns-in-Ok-clause-counts g c =
-    let ol = g.met.O.OutLane g.world.𝓛 g.world.𝓜 g.world.𝓡 (λ s x. x, λ x. x, λ x. x, λ x. x) in
-    let il = g.met.I.InLane g.world.𝓛 g.world.𝓜 g.world.𝓡 (λ s x. x, λ x. x, λ x. x, λ x. x) in
-    let k = laws g.O.OutLane g.I.InLane ol.same_itself ol.same_later il.same_itself il.same_later in
-    counted_later k c.args.self.now.worker c.make.new.self.worker c.settle.new.self.worker c.in-Ok.ensures.counts c.settle.ensures.counts
+pub returns-in-Err : goal.returns-in-Err
+returns-in-Err g c =
+    let a = c.args.self.now in
+    let m = c.make.new.self in
+    let h = c.in-Err.ensures in
+    record {
+      ok = λ file rest parties. tt;
+      err = λ file rest parties. subst (λ (s : SeatedAt). SeatWork g.O.OutLane g.I.InLane file s (seat_of rest m) a.worker m.worker)
+          (λ i. record { ends = ends_at a.table (c.reserve.ensures.items i); steps = a.calls; calls = rest; may = may_of a }) (h.err file rest parties);
+      rests = record { ends = h.rests.ends ∙ ap (ends_at a.table) c.reserve.ensures.items; calls = h.rests.calls; may = h.rests.may };
+      takes = tt;
+      tells = tt;
+      stays = h.stays;
+      keeps = h.keeps;
+      counts = h.counts;
+      cause = c.refused.ensures (asked c.args.call) h.cause;
+      waits = λ is. ap kept_stop h.stop ∙ c.stopped.ensures.none c.in_default.is;
+    }
