@@ -58,18 +58,18 @@ no_end_sent e s d k None h = cc h
 no_end_sent e s d k (Some place) h = never_allowed (may_send place (msgs.Sess s d k)) e (msgs.Sess s d k) (no_end_in place s d k) h
 
 -- its note tells it
-tells : (t : Table) (os : Openings) (bs : Ends) (calls : ℕ) (n : Node) (k : ℕ) (call : seats.Call) → IsGuarded t os bs calls call → is_some (head_taken n call) ≡ is_take call → call_told k (note_seen (call_note n call)) ≡ Some (asked call)
-tells t os bs calls n k (Send e (msgs.Int i)) guarded heads = refl
-tells t os bs calls n k (Send e (msgs.Bool b)) guarded heads = refl
-tells t os bs calls n k (Send e (msgs.Text i)) guarded heads = refl
-tells t os bs calls n k (Send e (msgs.Label l)) guarded heads = refl
-tells t os bs calls n k (Send e (msgs.More b)) guarded heads = refl
-tells t os bs calls n k (Send e (msgs.Sess s d k)) guarded heads = absurd (no_end_sent e s d k (place_held bs e) guarded.want)
-tells t os bs calls n k (Delegate c e) guarded heads = refl
-tells t os bs calls n k (Close e) guarded heads = refl
-tells t os bs calls n k (Take e spot) guarded heads = by (next_head n e) heads
+tells : (t : Table) (os : Openings) (bs : Ends) (calls : ℕ) (n : Node) (named : ℕ) (call : seats.Call) → IsGuarded t os bs calls call → is_some (head_taken n call) ≡ is_take call → call_told named (note_seen (call_note n call)) ≡ Some (asked call)
+tells t os bs calls n named (Send e (msgs.Int i)) guarded heads = refl
+tells t os bs calls n named (Send e (msgs.Bool b)) guarded heads = refl
+tells t os bs calls n named (Send e (msgs.Text i)) guarded heads = refl
+tells t os bs calls n named (Send e (msgs.Label l)) guarded heads = refl
+tells t os bs calls n named (Send e (msgs.More b)) guarded heads = refl
+tells t os bs calls n named (Send e (msgs.Sess s d k)) guarded heads = absurd (no_end_sent e s d k (place_held bs e) guarded.want)
+tells t os bs calls n named (Delegate c e) guarded heads = refl
+tells t os bs calls n named (Close e) guarded heads = refl
+tells t os bs calls n named (Take e spot) guarded heads = by (next_head n e) heads
   where
-    by : (o : Option Msg) → is_some o ≡ true → call_told k (note_seen (took_if e o)) ≡ Some (Rattle.sj_seat_laws.specs.Calls.takes e)
+    by : (o : Option Msg) → is_some o ≡ true → call_told named (note_seen (took_if e o)) ≡ Some (Rattle.sj_seat_laws.specs.Calls.takes e)
     by None h = absurd (cc h)
     by (Some m) h = refl
 

@@ -1,4 +1,4 @@
-use Rattle.std.proofs.Common.{Bool, ℕ, map, subst}
+use Rattle.std.proofs.Common.{◌∙◌, Bool, ℕ, ap, map, subst}
 use Rattle.sj_core.specs.Views.{line_at}
 use Rattle.sj_lang.specs.FileAt.{FileAt}
 use Rattle.sj_seats.specs.Calls.{OpenedAs}
@@ -21,3 +21,6 @@ returns-in-Err-clause-misfit c =
     subst (λ (f : FileAt). IsMisfitFrom f (seat_in c.args.seats.now) told lines c.in-Err.refusal) begun.ensures.file
     (subst (λ (s : ℕ → Bool). IsMisfitFrom (file_in begun.played_world) s told lines c.in-Err.refusal) (λ i q. begun.ensures.seats q i)
     (subst (λ (o : OpenedAs). IsMisfitFrom (file_in begun.played_world) (is_seat (chairs_in begun.played_world)) o lines c.in-Err.refusal) (λ i q s. begun.ensures.opened q s i) c.in-Err.ensures.misfit))
+
+pub returns-in-Ok-clause-opened : goal.returns-in-Ok-clause-opened
+returns-in-Ok-clause-opened c = λ q sess. ap (λ (o : OpenedAs). o q sess) c.in-Ok.ensures.keeps.opened ∙ c.in_ok-played_world.ensures.opened q sess
