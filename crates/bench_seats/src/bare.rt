@@ -11,7 +11,7 @@ use std::time::Clock;
 /// How many numbers a ring has room for, as those of RingLinks.
 const ROOM: usize = 64;
 
-/// After how many tries in vain a thread gives its time away, as many as a seat has looks.
+/// After how many tries in vain a thread gives its time away.
 const TRIES: u64 = 1_000;
 
 /// A thread's ends of two rings, one each way.

@@ -16,8 +16,9 @@ use std::time::Clock;
 /// a turn has one for each message and one for the loop.
 const TURNS: u32 = 98;
 
-/// How many turns in vain a call waits before its party gives its time away.
-const LOOKS: u32 = 1_000;
+/// How many turns in vain a call waits before its party gives its time away. They are as many
+/// instructions as the tries by hand.
+const LOOKS: u32 = 45;
 
 /// One run of so many turns. The times are that of the whole run, and that which the taker played.
 fn one_run<R: Threads + Clock + Sync>(

@@ -15,3 +15,12 @@ returns-in-Err-attempt-clause-cause g c =
     let h = c.in-Err-attempt.ensures in
     cut_short m e (place_held (ends_of m) e) why (head_at_end a.worker.node m.worker.node e (next_head a.worker.node e) refl c.requires.there h.stays) refl
     (subst (λ (d : Call). IsHeldUp why d m) c.in-Ok.ensures.call h.cause)
+
+pub returns-in-Err-attempt-clause-err : goal.returns-in-Err-attempt-clause-err
+returns-in-Err-attempt-clause-err g c = c.in-Err-attempt.ensures.err
+
+pub returns-in-Err-attempt-clause-rests : goal.returns-in-Err-attempt-clause-rests
+returns-in-Err-attempt-clause-rests g c = c.in-Err-attempt.ensures.rests
+
+pub returns-in-Err-attempt-clause-keeps : goal.returns-in-Err-attempt-clause-keeps
+returns-in-Err-attempt-clause-keeps g c = c.in-Err-attempt.ensures.keeps
