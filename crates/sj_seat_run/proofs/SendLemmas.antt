@@ -25,7 +25,7 @@ module _ (a : NamedLft) (O I G : RattleType) (o : IsSend O) (i : IsSend I) (g : 
 
   module _ (C : RattleType) (c : IsSend C) where
     actor_send : IsSend (actor.the_row a O I G C)
-    actor_send = declared_send (actor.the_type a O I G C) (guest_send, (search sendable, (search (opened.the_send, opened.the_field_send, vec.the_send, global.the_send, frees.the_frees, sendable) depth 20, tt)))
+    actor_send = declared_send (actor.the_type a O I G C) (guest_send, (search sendable, (search (opened.the_send, vec.the_send, global.the_send, frees.the_frees, sendable) depth 20, tt)))
 
     pub runner_send : IsSend (runner.the_row a O I G C)
     runner_send = variants_send (runner.enum a O I G C) ((worker_send O I o i n, tt), ((actor_send, tt), tt))

@@ -1,5 +1,5 @@
 //! What each party does on its thread.
-ghost use Rattle.std.specs.Prelude.{◌≡◌, None, IsFalse};
+ghost use Rattle.std.specs.Prelude.{◌≡◌, ◌<◌, None, IsFalse, vec_capacity, vec_len};
 ghost use Rattle.sj_seat_run.specs.Runners.{HasTakenPart};
 ghost use Rattle.sj_seat_run.specs.Played.{Played};
 ghost use Rattle.sj_work.specs.Views.{stop_of};
@@ -73,6 +73,15 @@ fn opened_as(wish: OpenWish, end: EndId) -> OpenedSession {
     }
 }
 
+/// Lists the session that the code opened by what it asked for, if any. There is room for it.
+fn list_opened(opened: &mut Vec<OpenedSession>, ask: &Ask, answer: Answer)
+    requires room { vec_len opened.old < vec_capacity opened.old }
+{
+    if let (Ask::Open(wish), Ok(Outcome::Opened { end })) = (ask, answer) {
+        opened.push_reserved(opened_as(*wish, end));
+    }
+}
+
 /// Does what the code asks for, and lists the session that it opened, if any.
 fn do_ask<O: OutLane, I: InLane, G: Gate>(
     guest: &mut Guest<'_, O, I, G>,
@@ -84,11 +93,9 @@ fn do_ask<O: OutLane, I: InLane, G: Gate>(
     if opened.reserve(1).is_err() {
         return Err(SeatRefusal::NoMemory);
     }
-    let told = guest.ask(ask);
-    if let (Ask::Open(wish), Ok(Outcome::Opened { end })) = (ask, told) {
-        opened.push_reserved(opened_as(*wish, end));
-    }
-    told
+    let answer = guest.ask(ask);
+    list_opened(opened, ask, answer);
+    answer
 }
 
 /// What the code asks for is done, and it is told of each answer, until it asks for nothing more, or

@@ -15,5 +15,5 @@ returns g c =
     let ol = g.met.O.OutLane g.world.𝓛 g.world.𝓜 g.world.𝓡 (λ s x. x, λ x. x, λ x. x, λ x. x) in
     let il = g.met.I.InLane g.world.𝓛 g.world.𝓜 g.world.𝓡 (λ s x. x, λ x. x, λ x. x, λ x. x) in
     let k = laws g.O.OutLane g.I.InLane ol.same_itself ol.same_later il.same_itself il.same_later in
-    let h = c.ask-told.ensures in
-    played_call k c.args.guest.now c.ask-told.new.self (call_made c.args.ask.now) c.ask-told.result h.ok h.err h.keeps h.counts
+    let h = c.ask-answer.ensures in
+    played_call k c.args.guest.now c.ask-answer.new.self (call_made c.args.ask.now) c.ask-answer.result h.ok h.err h.keeps h.counts
