@@ -37,6 +37,7 @@ impl Play for Client {
                     },
                 ),
             ) => self.number = Some(number),
+            Some(Ok(Outcome::Opened { end })) => self.end = Some(end),
             Some(Err(SeatRefusal::Waiting)) if self.patience > 0 => {
                 self.patience = self.patience.saturating_sub(1);
             }
