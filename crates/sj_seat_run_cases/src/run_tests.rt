@@ -164,11 +164,12 @@ fn code_leaves_with_an_end_open(rt: HostRuntime) -> Result<(), Fail> {
     Ok(())
 }
 
-// A party that asks another one for a number, by a session that it opens; and one that takes from two.
+// A party that asks another one for a number, by a session that it opens. They are connected, too.
 const CALLS: &[u8] = b"protocol asks { begin.?(int) }
 protocol tells { begin.!<int> }
-party client { request x asks to server; recv x n int; close x; }
-party server { accept y tells from client; send y 7; close y; }
+party client { request x asks to server; recv x n int; close x; send d 1; close d; }
+party server { accept y tells from client; send y 7; close y; recv e m int; close e; }
+connect client d tells to server e asks;
 ";
 
 /// The client's end of the session that it opens first, and the server's.
@@ -256,7 +257,7 @@ fn one_code_requests_and_the_other_accepts(rt: HostRuntime) -> Result<(), Fail> 
     let Some(ends) = run.world.ends(0) else {
         return Err(Fail::from("no code"));
     };
-    assert_eq!(rt; ends.len(), 0);
+    assert_eq!(rt; ends.len(), 1);
     Ok(())
 }
 
