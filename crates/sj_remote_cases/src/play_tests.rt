@@ -16,6 +16,7 @@ connect buyer x buys to seller y sells;
 
 // What stands in the end: lines of each stream, with a bar after each entry.
 const OF_A: &[u8] = b"1 a send 0.0 int 1\n2 a close 0.0\n|6 a from b fin 0.0 0 0\n|";
+
 const OF_B: &[u8] =
     b"2 b from a carry 0.1 0 0 0 int 1\n3 b from a fin 0.1 0 1\n4 b take 0.1 int 1\n5 b close 0.1\n|";
 
@@ -28,7 +29,7 @@ fn two_parties_take_turns(rt: HostRuntime) -> Result<(), Fail> {
         (0, Outcome::Waits),
         (1, Outcome::Waits),
         (0, Outcome::Waits),
-        (1, Outcome::Ended),
+        (1, Outcome::Waits),
         (0, Outcome::Ended),
         (1, Outcome::Ended),
         (0, Outcome::Ended),

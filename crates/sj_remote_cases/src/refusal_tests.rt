@@ -7,14 +7,18 @@ use std::cell::RefCell;
 use std::test::Fail;
 
 const OF_A: &[u8] = b"sj:{r}:log:0";
+
 const OF_B: &[u8] = b"sj:{r}:log:1";
 
 const E: &[u8] = b"e";
+
 const TO_A: &[u8] = b"0";
+
 const TO_B: &[u8] = b"1";
 
 // What a does in its first batch, and what b notes of it.
 const LINES: &[u8] = b"1 a send 0.0 int 1\n2 a close 0.0\n";
+
 const LINES_OF_B: &[u8] = b"2 b from a carry 0.1 0 0 0 int 1\n";
 
 // A Fin of the end 0.1, as docs/FORMATS.md has it: that end is b's.
@@ -67,12 +71,7 @@ const REFUSED: [(u64, Deed, PlayRefusal, &str); 22] = [
         PlayRefusal::Overtaken,
         "another entry came after the own one",
     ),
-    (
-        3,
-        Deed::Fills,
-        PlayRefusal::Server,
-        "the memory is full",
-    ),
+    (3, Deed::Fills, PlayRefusal::Server, "the memory is full"),
     (
         2,
         Deed::Says(b"-ERR unknown command 'XREAD'\r\n"),
@@ -216,7 +215,11 @@ fn a_password_is_asked_for(rt: HostRuntime) -> Result<(), Fail> {
     let right: &[u8] = b"right";
     for (wanted, given, outcome) in [
         (Some(right), Some(right), Ok(Outcome::Waits)),
-        (Some(right), Some(b"wrong".as_slice()), Err(PlayRefusal::Password)),
+        (
+            Some(right),
+            Some(b"wrong".as_slice()),
+            Err(PlayRefusal::Password),
+        ),
         (Some(right), None, Err(PlayRefusal::Password)),
         (None, Some(right), Err(PlayRefusal::Password)),
         (None, None, Ok(Outcome::Waits)),

@@ -12,12 +12,17 @@ use std::alloc::Global;
 use std::collections::VecDeque;
 
 const NOAUTH: &[u8] = b"-NOAUTH Authentication required.\r\n";
+
 const WRONGPASS: &[u8] = b"-WRONGPASS invalid username-password pair or user is disabled.\r\n";
+
 const NO_PASSWORD: &[u8] =
     b"-ERR AUTH <password> called without any password configured for the default user. Are you sure your configuration is correct?\r\n";
+
 const OOM: &[u8] = b"-OOM command not allowed when used memory > 'maxmemory'.\r\n";
+
 const LATE: &[u8] =
     b"-ERR The ID specified in XADD is equal or smaller than the target stream top item\r\n";
+
 const UNKNOWN: &[u8] = b"-ERR unknown command\r\n";
 
 /// What else happens when a command comes.
@@ -103,8 +108,7 @@ impl Server {
     }
 
     /// Gives bytes that are to go out, and answers how many.
-    pub(crate) fn give(&mut self, buf: &mut [u8]) -> usize
-    {
+    pub(crate) fn give(&mut self, buf: &mut [u8]) -> usize {
         let n = buf.len().min(self.out.len());
         buf[..n].copy_from_slice(&self.out[..n]);
         let left = self.out.len() - n;

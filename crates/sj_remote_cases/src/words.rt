@@ -7,10 +7,7 @@ use std::alloc::Global;
 use std::collections::VecDeque;
 
 /// The words of a command; those before the first part that is no word.
-pub(crate) fn words_of(
-    alloc: Global,
-    tokens: VecDeque<Token>,
-) -> Result<Vec<Vec<u8>>, NoMemory> {
+pub(crate) fn words_of(alloc: Global, tokens: VecDeque<Token>) -> Result<Vec<Vec<u8>>, NoMemory> {
     let mut tokens = tokens;
     let mut words = Vec::new(alloc);
     let Some(Token::Array(_)) = tokens.pop_front() else {
