@@ -1,6 +1,8 @@
 //! Commands and replies, to the byte.
 
 use crate::server::Server;
+use sj_base::NoMemory;
+use std::alloc::Global;
 use std::test::Fail;
 
 // What is sent, and what Redis 7 answers.
@@ -38,14 +40,24 @@ const TALK: [(&[u8], &[u8]); 10] = [
     ),
 ];
 
-#[test]
-fn the_server_in_memory_answers_as_redis_does(rt: HostRuntime) -> Result<(), Fail> {
-    let mut server = Server::new(rt.alloc(), Some(b"p"));
+/// How many of the replies come, up to the first that is another.
+fn replies_that_come(alloc: Global) -> Result<usize, NoMemory> {
+    let mut server = Server::new(alloc, Some(b"p"));
     let mut buf = [0; 256];
-    for (sent, wanted) in TALK {
+    let mut count: usize = 0;
+    for (sent, wanted) in &TALK {
         server.take(sent)?;
         let n = server.give(&mut buf);
-        assert_eq!(rt; buf.get(..n), Some(wanted));
+        if buf.get(..n) != Some(*wanted) {
+            break;
+        }
+        count = count.saturating_add(1);
     }
+    Ok(count)
+}
+
+#[test]
+fn the_server_in_memory_answers_as_redis_does(rt: HostRuntime) -> Result<(), Fail> {
+    assert_eq!(rt; replies_that_come(rt.alloc())?, TALK.len());
     Ok(())
 }

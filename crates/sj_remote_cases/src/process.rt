@@ -55,6 +55,18 @@ pub(crate) fn process(
     Ok(play_party(alloc, &mut conn, accepted, &how))
 }
 
+/// A process of the file's first party at a server of its own, which wants that password.
+pub(crate) fn alone(
+    alloc: Global,
+    wanted: Option<&'static [u8]>,
+    given: Option<&[u8]>,
+    due: Option<(u64, Deed)>,
+) -> Result<Result<Outcome, PlayRefusal>, Fail> {
+    let accepted = accepted(alloc, FILE)?;
+    let server = RefCell::new(Server::new(alloc, wanted));
+    process(alloc, &server, &accepted, 0, given, due)
+}
+
 /// The lines that stand in the party's stream, entry by entry, with a bar after each entry.
 pub(crate) fn lines(alloc: Global, server: &RefCell<Server>, party: u16) -> Result<Vec<u8>, Fail> {
     let key = log_key(alloc, b"r", party)?;

@@ -1,9 +1,8 @@
 //! What a process is refused by, case by case.
 
-use crate::process::{FILE, accepted, process};
-use crate::server::{Deed, Server};
+use crate::process::alone;
+use crate::server::Deed;
 use sj_remote_run::{Outcome, PlayRefusal};
-use std::cell::RefCell;
 use std::test::Fail;
 
 const OF_A: &[u8] = b"sj:{r}:log:0";
@@ -198,35 +197,30 @@ const REFUSED: [(u64, Deed, PlayRefusal, &str); 22] = [
 
 #[test]
 fn each_refusal_has_its_name(rt: HostRuntime) -> Result<(), Fail> {
-    let alloc = rt.alloc();
-    let accepted = accepted(alloc, FILE)?;
-    for (at, deed, refusal, what) in REFUSED {
-        let server = RefCell::new(Server::new(alloc, None));
-        let outcome = process(alloc, &server, &accepted, 0, None, Some((at, deed)))?;
-        assert_eq!(rt; outcome, Err(refusal), "{what}");
+    for (at, deed, refusal, what) in &REFUSED {
+        let outcome = alone(rt.alloc(), None, None, Some((*at, *deed)))?;
+        assert_eq!(rt; outcome, Err(*refusal), "{what}");
     }
     Ok(())
 }
 
+const RIGHT: Option<&[u8]> = Some(b"right");
+
+const WRONG: Option<&[u8]> = Some(b"wrong");
+
+// The password that is wanted, the one that is given, and what comes of it.
+const GIVEN: [(Option<&[u8]>, Option<&[u8]>, Result<Outcome, PlayRefusal>); 5] = [
+    (RIGHT, RIGHT, Ok(Outcome::Waits)),
+    (RIGHT, WRONG, Err(PlayRefusal::Password)),
+    (RIGHT, None, Err(PlayRefusal::Password)),
+    (None, RIGHT, Err(PlayRefusal::Password)),
+    (None, None, Ok(Outcome::Waits)),
+];
+
 #[test]
 fn a_password_is_asked_for(rt: HostRuntime) -> Result<(), Fail> {
-    let alloc = rt.alloc();
-    let accepted = accepted(alloc, FILE)?;
-    let right: &[u8] = b"right";
-    for (wanted, given, outcome) in [
-        (Some(right), Some(right), Ok(Outcome::Waits)),
-        (
-            Some(right),
-            Some(b"wrong".as_slice()),
-            Err(PlayRefusal::Password),
-        ),
-        (Some(right), None, Err(PlayRefusal::Password)),
-        (None, Some(right), Err(PlayRefusal::Password)),
-        (None, None, Ok(Outcome::Waits)),
-    ] {
-        let server = RefCell::new(Server::new(alloc, wanted));
-        let came = process(alloc, &server, &accepted, 0, given, None)?;
-        assert_eq!(rt; came, outcome);
+    for (wanted, given, outcome) in &GIVEN {
+        assert_eq!(rt; alone(rt.alloc(), *wanted, *given, None)?, *outcome);
     }
     Ok(())
 }
