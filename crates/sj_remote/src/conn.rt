@@ -53,6 +53,7 @@ impl<S: Source, K: Sink> Conn<S, K> {
         ensures err { OnErr result (WroteFrontOf text.now (K.written (sink_of self.old)) (K.written (sink_of self.new))) }
         ensures lost { IfErr result (λ e. e ≡ ConnRefusal.Lost) }
         ensures rose { OnErr result (Rose (K.faults (sink_of self.old)) (K.faults (sink_of self.new))) }
+        ensures later { K.faults (sink_of self.old) ≤ K.faults (sink_of self.new) }
         ensures source { source_of self.new ≡ source_of self.old }
         ensures heard { heard self.new ≡ heard self.old }
     {
