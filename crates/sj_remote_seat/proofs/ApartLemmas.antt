@@ -8,7 +8,8 @@ use Rattle.sj_seat.specs.declared.holdings.Holdings.{Holdings}
 use Rattle.sj_seat.specs.declared.guest.Guest.{Guest}
 use Rattle.sj_work.specs.Views.{node_of}
 use Rattle.sj_work.specs.declared.worker.Worker.{Worker}
-use Rattle.sj_remote_seat.proofs.SatLemmas.{Resembles, Still, after_entry, put_together, resembles_then}
+use Rattle.sj_remote_seat.specs.Turns.{Resembles, Still}
+use Rattle.sj_remote_seat.proofs.SatLemmas.{after_entry, put_together, resembles_then}
 
 module _ {O I G : Type 0} where
   -- its node lost its log, and looks the same to the rules otherwise

@@ -22,8 +22,8 @@ use Rattle.sj_semantics.specs.declared.Want.TheVariants as wants
 use Rattle.sj_table.specs.declared.table.Spot.{Spot}
 use Rattle.sj_work.proofs.NodeLemmas.{came_stepped}
 use Rattle.sj_work.specs.Laned.{entries_of}
-use Rattle.sj_remote_seat.specs.Turns.{IsDelivered, Ran, Sat}
-use Rattle.sj_remote_seat.proofs.SatLemmas.{Resembles, ran_none, ran_then}
+use Rattle.sj_remote_seat.specs.Turns.{IsDelivered, Ran, Resembles, Sat}
+use Rattle.sj_remote_seat.proofs.SatLemmas.{ran_none, ran_then}
 
 the_row : {X : Type 0} (x y : X) → Some x ≡ Some y → x ≡ y
 the_row x y h = cc

@@ -1,5 +1,10 @@
 mod ApartLemmas
 mod CaughtLemmas
 mod DeliveredLemmas
+mod GoingLemmas
+mod HandedLemmas
 mod PlayedLemmas
+mod RebuiltLemmas
 mod SatLemmas
+mod SentLemmas
+mod WholeLemmas

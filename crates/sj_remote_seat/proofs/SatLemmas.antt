@@ -22,7 +22,7 @@ use Rattle.sj_seat_laws.specs.SeatRows.{with_player}
 use Rattle.sj_seat_laws.specs.SeatedPlay.{seated, seated_play}
 use Rattle.sj_seat_run.specs.Played.{Played}
 use Rattle.sj_work.specs.Laned.{entries_of}
-use Rattle.sj_remote_seat.specs.Turns.{Ran, Sat, Turns}
+use Rattle.sj_remote_seat.specs.Turns.{Ran, Resembles, Sat, Still, Turns}
 
 -- nothing is done
 pub ran_none : (file : FileAt) (s t : SeatedAt) (a b : Node) → t ≡ s → node_at b ≡ node_at a → Ran file s t a b []
@@ -37,12 +37,6 @@ ran_then file s t u a b c xs ys party x y = record {
   noted = (λ i. x.noted i ++ y.noted i) ∙ sym (map-append (λ (e : StepAt Place). e.entry) x.steps y.steps);
 }
 
--- a node that looks the same to the rules
-pub record Resembles (a b : Node) : Type 0 where
-  pub node : node_at b ≡ node_at a
-  pub party : party_of b ≡ party_of a
-  pub parties : parties_of b ≡ parties_of a
-
 pub after_entry : (a b : Node) → TakesEntry a b → Resembles a b
 after_entry a b t = record { node = t.node; party = t.party; parties = t.parties }
 
@@ -56,11 +50,6 @@ pub resembles_same : (a b : Node) → b ≡ a → Resembles a b
 resembles_same a b e = record { node = ap node_at e; party = ap party_of e; parties = ap parties_of e }
 
 module _ {O I G : Type 0} where
-  -- its code holds the same, and its node looks the same
-  pub record Still (a b : Guest O I G) : Type 0 where
-    pub seats : (rest : List Call) → seat_of rest b ≡ seat_of rest a
-    pub nodes : Resembles (node_of a) (node_of b)
-
   pub seats_same : (h : Holdings G) (a b : Guest O I G) → IsHeldBy h a → IsHeldBy h b → (rest : List Call) → seat_of rest b ≡ seat_of rest a
   seats_same h a b x y rest =
       let table : b.table ≡ a.table = y.table ∙ sym x.table in

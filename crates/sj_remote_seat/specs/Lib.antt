@@ -1,1 +1,6 @@
 pub mod Turns
+pub mod Caught
+pub mod Batches
+pub mod Handing
+pub mod Outcomes
+pub mod Played

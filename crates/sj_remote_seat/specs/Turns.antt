@@ -1,7 +1,6 @@
 -- What a party that code plays does between its entries, whatever its code calls later.
 use Rattle.std.specs.Prelude.{◌≡◌, ℕ, ◌+◌, max, List, [], ◌++◌, map, length, slice_get}
 use Rattle.sj_end.specs.Views.{note_at}
-use Rattle.sj_end.specs.declared.note.Entry.{Entry}
 use Rattle.sj_end.specs.declared.note.Event.TheVariants as events
 use Rattle.sj_lang.specs.FileAt.{FileAt}
 use Rattle.sj_lang.specs.Place.{Place}
@@ -9,15 +8,15 @@ use Rattle.sj_node.specs.Node.{Does, clock_of, delivery, log_of, node_at}
 use Rattle.sj_node.specs.Reading.{parties_of, party_of}
 use Rattle.sj_node.specs.Starting.{BeginsWith, nothing_to_do}
 use Rattle.sj_node.specs.declared.node.Node.{Node}
-use Rattle.sj_remote_run.specs.Entries.{entry_words}
 use Rattle.sj_rules.specs.Frames.{FrameAt}
 use Rattle.sj_rules.specs.Log.{EntryAt}
+use Rattle.sj_rules.specs.Node.{NodeAt}
 use Rattle.sj_rules.specs.NodeRun.{NodeRun, StepAt}
 use Rattle.sj_seat.specs.Views.{calls_of, ends_of, may_of, node_of, seat_of}
 use Rattle.sj_seat.specs.declared.guest.Guest.{Guest}
 use Rattle.sj_seat_laws.specs.Calls.{Call, SeatedAt}
 use Rattle.sj_seat_laws.specs.SeatRows.{with_player}
-use Rattle.sj_seat_laws.specs.SeatedPlay.{seated, seated_play}
+use Rattle.sj_seat_laws.specs.SeatedPlay.{Player, seated, seated_play}
 use Rattle.sj_seat_laws.specs.SeatedStart.{connected_ends, openings_of}
 use Rattle.sj_table.specs.declared.table.Spot.{Spot}
 use Rattle.sj_work.specs.Laned.{entries_of}
@@ -25,6 +24,10 @@ use Rattle.sj_work.specs.Laned.{entries_of}
 -- a frame came from that party
 abbrev pub IsDelivered : (from : ℕ) → FrameAt Spot → (old new : Node) → Type 0
 IsDelivered from f old new = Does old (delivery old from f) (max (clock_of old) f.clock + 1) (events.Deliver from) (note_at f.body) new
+
+-- a node whose party code plays
+abbrev pub played_at : SeatedAt → Node → NodeAt Place Player
+played_at s n = with_player (seated s) (node_at n)
 
 -- the node went by steps of the play in which code plays the party, from what the party was to what it is; these are their entries
 pub record Ran (file : FileAt) (from to : SeatedAt) (old new : Node) (entries : List EntryAt) : Type 0 where
@@ -37,6 +40,12 @@ pub record Noted (file : FileAt) (from to : SeatedAt) (old new : Node) : Type 0 
   pub entries : List EntryAt
   pub ran : Ran file from to old new entries
   pub log : entries_of (log_of new) ≡ entries_of (log_of old) ++ entries
+
+-- a node that looks the same to the rules
+pub record Resembles (a b : Node) : Type 0 where
+  pub node : node_at b ≡ node_at a
+  pub party : party_of b ≡ party_of a
+  pub parties : parties_of b ≡ parties_of a
 
 module _ {O I G : Type 0} where
   -- the party is the same one
@@ -58,22 +67,15 @@ module _ {O I G : Type 0} where
         → Ran file (seat_of (calls rest) old) (seat_of rest new) (node_of old) (node_of new) entries
     pub same : IsSame old new
 
+  -- nothing happened at the party: its code holds the same, and its node looks the same
+  pub record Still (old new : Guest O I G) : Type 0 where
+    pub seats : (rest : List Call) → seat_of rest new ≡ seat_of rest old
+    pub nodes : Resembles (node_of old) (node_of new)
+
   -- what was noted was taken out of the log, and nothing else happened at the party
   pub record Goes (old new : Guest O I G) : Type 0 where
-    pub sat : Sat old new []
+    pub still : Still old new
     pub log : log_of (node_of new) ≡ []
-
-  -- an entry with these words was done again: its lines are what was noted, and it has frames
-  pub record DidAgain (file : FileAt) (words : List (List ℕ)) (old new : Guest O I G) : Type 0 where
-    pub noted : List Entry
-    pub sat : Sat old new (entries_of noted)
-    pub posts : List (List (FrameAt Place))
-    pub spelt : words ≡ entry_words file (party_of (node_of old)) noted posts
-
-  -- entries were done again
-  pub record CaughtUp (old new : Guest O I G) : Type 0 where
-    pub entries : List EntryAt
-    pub sat : Sat old new entries
 
   -- the party before its first call
   pub record Begins (file : FileAt) (party : ℕ) (g : Guest O I G) : Type 0 where

@@ -1,6 +1,8 @@
 //! All that a party that code plays can do before it must wait for others.
-ghost use Rattle.std.specs.Prelude.{IfOk};
+ghost use Rattle.std.specs.Prelude.{◌≡◌, IfOk, IsTrue, None, Ok, false, true};
+ghost use Rattle.sj_remote_seat.specs.Outcomes.{StandsBy, is_at_limit};
 ghost use Rattle.sj_remote_seat.specs.Turns.{Turns};
+ghost use Rattle.sj_work.specs.Worked.{kept_stop};
 
 use crate::asking::Asking;
 use crate::home::go_home;
@@ -37,24 +39,32 @@ fn take_turns<'a, C: Play>(
     Err(PlayRefusal::NoMemory)
 }
 
-/// How a party stands whose code is over, or waits.
-fn outcome_of(stop: Option<Stop>, over: bool) -> Result<Outcome, PlayRefusal> {
+/// How a party stands whose worker stopped so, by whether it has nothing left to do.
+fn outcome_of(stop: Option<Stop>, finished: bool) -> Result<Outcome, PlayRefusal>
+    ensures ended { result ≡ Ok Outcome.Ended → IsTrue finished }
+    ensures waits { result ≡ Ok Outcome.Waits →
+        (kept_stop stop ≡ None) × (is_at_limit stop ≡ false) }
+    ensures limit { result ≡ Ok Outcome.Limit → is_at_limit stop ≡ true }
+{
     match stop {
-        None => Ok(Outcome::Waits),
-        Some(stop) => stands(stop, over && matches!(stop, Stop::Finished)),
+        None => stands(Stop::Idle, finished),
+        Some(stop) => stands(stop, finished),
     }
 }
 
-/// All that the party can do before it must wait for others. Answers how it stands.
+/// All that the party can do before it must wait for others. Answers how it stands. It has ended
+/// where its code is over and it has nothing left to do.
 pub(crate) fn play_batch<'a, C: Play>(
     alloc: Global,
     seat: Seat<'a>,
     asking: &mut Asking,
     code: &mut C,
 ) -> Result<(Seat<'a>, Outcome), PlayRefusal>
-    ensures { IfOk result (λ r. Turns seat.entry r.0) }
+    ensures turns { IfOk result (λ r. Turns seat.entry r.0) }
+    ensures stands { IfOk result (λ r. StandsBy r.1 r.0) }
 {
     let seat = take_turns(alloc, seat, asking, code)?;
-    let outcome = outcome_of(seat.worker().stop(), asking.is_over())?;
+    let finished = asking.is_over() && seat.worker().node().finished();
+    let outcome = outcome_of(seat.worker().stop(), finished)?;
     Ok((seat, outcome))
 }

@@ -5,11 +5,14 @@ mod acts;
 mod again;
 mod asking;
 mod batch;
+mod catching;
 mod events;
+mod handing;
 mod home;
 mod play;
 mod refusal;
 mod seat;
+mod start;
 mod stops;
 mod turns;
 

@@ -1,152 +1,49 @@
 //! A party that code plays, over a connection.
-ghost use Rattle.std.specs.Prelude.{◌≡◌, ◌<◌, [], IfOk, IfSome, length};
+ghost use Rattle.std.specs.Prelude.{◌≡◌, ◌<◌, [], IfErr, IfOk, get_or, length};
 ghost use Rattle.sj_check.specs.Held.{file_in};
-ghost use Rattle.sj_lang.specs.FileAt.{body_named};
 ghost use Rattle.sj_lang.specs.FileView.{file_of};
 ghost use Rattle.sj_node.specs.Node.{log_of};
-ghost use Rattle.sj_remote_seat.specs.Turns.{Begins, CaughtUp, Goes};
-ghost use Rattle.sj_seat.specs.Places.{CarriesPlaces};
+ghost use Rattle.sj_node.specs.Reading.{parties_of, party_of};
+ghost use Rattle.sj_remote.specs.Conn.{sink_of};
+ghost use Rattle.sj_remote.specs.Streams.{keys_of, seen_of};
+ghost use Rattle.sj_remote_run.specs.Sent.{text_sent};
+ghost use Rattle.sj_remote_seat.specs.Played.{HasGone, IsPlayed, IsRefused};
 ghost use Rattle.sj_seat.specs.Views.{node_of};
-ghost use Rattle.sj_table.specs.Spots.{start_in};
+ghost use Rattle.sj_streams.specs.Words.{words_at};
 
 use crate::SeatPlayRefusal;
-use crate::again::do_again;
 use crate::asking::Asking;
 use crate::batch::play_batch;
+use crate::catching::catch_up;
+use crate::handing::{hand_in, hand_in_last};
 use crate::seat::Seat;
-use sj_base::{NoMemory, Sink, Source};
+use crate::start::take_seat;
+use sj_base::{Sink, Source};
 use sj_check::Accepted;
-use sj_engine::{ByteIn, ByteOut};
-use sj_lane::Lanes;
 use sj_lang::File;
 use sj_remote::{Conn, Streams};
-use sj_remote_run::{
-    Outcome, Play, PlayRefusal, Player, add, exchange, new_lanes, read_all, share, sign_in,
-};
-use sj_seat::{Guest, seat_table};
-use sj_streams::Came;
-use sj_table::Table;
-use sj_work::{NoGate, Worker};
+use sj_remote_run::{Outcome, Play, PlayRefusal, new_lanes, read_all, share, sign_in};
+use sj_work::NoGate;
 use std::alloc::Global;
-
-/// The table of the party's node.
-fn table_for(alloc: Global, accepted: &Accepted) -> Result<Table, SeatPlayRefusal>
-    ensures starts { IfOk result (λ t. (p : _) → start_in t p
-        ≡ body_named (file_of (file_in accepted.now)).protocols p) }
-    ensures carries { IfOk result (λ t. CarriesPlaces t) }
-{
-    match seat_table(alloc, accepted) {
-        Ok(Some(table)) => Ok(table),
-        Ok(None) => Err(SeatPlayRefusal::LacksPlace),
-        Err(NoMemory) => Err(SeatPlayRefusal::from(NoMemory)),
-    }
-}
-
-/// The party before its first call, with these lanes. A call that waits is refused at once.
-fn take_seat<'a>(
-    alloc: Global,
-    accepted: &Accepted,
-    party: u16,
-    lanes: Lanes<ByteOut, ByteIn>,
-    gate: &'a NoGate,
-) -> Result<Seat<'a>, SeatPlayRefusal>
-    requires { party < length (file_of (file_in accepted.now)).parties }
-    ensures { IfOk result (Begins (file_of (file_in accepted.now)) party) }
-{
-    let table = table_for(alloc, accepted)?;
-    let seat = Guest::start(alloc, accepted, &table, party, lanes, 0, gate)?;
-    Ok(seat)
-}
-
-/// Does again the entries that came at once.
-fn redo_came<'a, C: sj_seat_run::Play>(
-    alloc: Global,
-    accepted: &Accepted,
-    seat: Seat<'a>,
-    entries: &[Vec<Vec<u8>>],
-    asking: &mut Asking,
-    code: &mut C,
-) -> Result<Seat<'a>, SeatPlayRefusal>
-    requires { log_of (node_of seat) ≡ [] }
-    ensures again { IfOk result (λ new. CaughtUp seat.entry new) }
-    ensures none { IfOk result (λ new. log_of (node_of new) ≡ []) }
-{
-    let mut going = seat;
-    for words in entries {
-        let next = do_again(alloc, accepted, going, asking, code, words)?;
-        going = next;
-    }
-    Ok(going)
-}
-
-/// Does again what stands in the party's own stream, by what its code asks for.
-fn catch_up<'a, C: sj_seat_run::Play>(
-    alloc: Global,
-    accepted: &Accepted,
-    seat: Seat<'a>,
-    own: &[Came],
-    asking: &mut Asking,
-    code: &mut C,
-) -> Result<Seat<'a>, SeatPlayRefusal>
-    requires { log_of (node_of seat) ≡ [] }
-    ensures again { IfOk result (λ new. CaughtUp seat.entry new) }
-    ensures none { IfOk result (λ new. log_of (node_of new) ≡ []) }
-{
-    let mut going = seat;
-    for came in own {
-        let next = redo_came(alloc, accepted, going, &came.entries, asking, code)?;
-        going = next;
-    }
-    Ok(going)
-}
-
-/// Adds what the party noted, where it noted something, and takes what comes. None where nothing
-/// came for so long.
-fn hand_in<'a, S: Source, K: Sink>(
-    alloc: Global,
-    conn: &mut Conn<S, K>,
-    file: &File,
-    seat: Seat<'a>,
-    streams: &mut Streams,
-    wait: u64,
-) -> Result<Option<Seat<'a>>, PlayRefusal>
-    ensures goes { IfOk result (λ o. IfSome o (λ new. Goes seat.entry new)) }
-{
-    let (worker, holdings) = seat.into_parts();
-    let (lanes, node, noted) = worker.into_parts();
-    let mut player = Player { node, lanes };
-    if !exchange(alloc, conn, file, &mut player, streams, &noted, wait)? {
-        return Ok(None);
-    }
-    let worker = Worker::new(player.node, player.lanes);
-    Ok(Some(holdings.with_worker(worker)))
-}
-
-/// Adds what the party noted last.
-fn hand_in_last<S: Source, K: Sink>(
-    alloc: Global,
-    conn: &mut Conn<S, K>,
-    file: &File,
-    seat: Seat<'_>,
-    streams: &mut Streams,
-) -> Result<(), PlayRefusal> {
-    let (worker, _) = seat.into_parts();
-    let (lanes, node, noted) = worker.into_parts();
-    let mut player = Player { node, lanes };
-    add(alloc, conn, file, &mut player, streams, &noted)
-}
 
 /// Batches until there is a cause to stop.
 fn go_on<S: Source, K: Sink, C: sj_seat_run::Play>(
     alloc: Global,
     conn: &mut Conn<S, K>,
     file: &File,
+    how: &Play,
     seat: Seat<'_>,
     streams: &mut Streams,
     asking: &mut Asking,
     code: &mut C,
-    wait: u64,
-) -> Result<Outcome, PlayRefusal> {
+) -> Result<Outcome, PlayRefusal>
+    requires empty { log_of (node_of seat) ≡ [] }
+    requires parties { length (file_of file.now).parties ≡ parties_of (node_of seat) }
+    ensures { IfOk result (λ o. HasGone (text_sent (file_of file.now) how.now.run.now
+        (words_at (keys_of streams.old)) (party_of (node_of seat.entry))) (file_of file.now)
+        (get_or (seen_of streams.old) (party_of (node_of seat.entry)) 0) seat.entry o
+        (K.written (sink_of conn.old)) (K.written (sink_of conn.new))) }
+{
     let mut going = seat;
     for _ in 0..u64::MAX {
         let (next, outcome) = play_batch(alloc, going, asking, code)?;
@@ -154,12 +51,13 @@ fn go_on<S: Source, K: Sink, C: sj_seat_run::Play>(
             hand_in_last(alloc, conn, file, next, streams)?;
             return Ok(outcome);
         }
-        going = match hand_in(alloc, conn, file, next, streams, wait)? {
+        going = match hand_in(alloc, conn, file, next, streams, how.wait.max(1))? {
             Some(seat) => seat,
             None => return Ok(outcome),
         };
     }
-    Ok(Outcome::Limit)
+    // No stream has so many entries.
+    Err(PlayRefusal::TooLong)
 }
 
 /// Plays a party over a connection by what its code asks for, until there is a cause to stop. It
@@ -173,6 +71,10 @@ pub fn play_seat<S: Source + Drop, K: Sink + Drop, C: sj_seat_run::Play>(
     code: &mut C,
 ) -> Result<Outcome, SeatPlayRefusal>
     requires { how.now.party < length (file_of (file_in accepted.now)).parties }
+    ensures ok { IfOk result (λ o. IsPlayed (file_of (file_in accepted.now)) how.now.run.now
+        how.now.party o (K.written (sink_of conn.old)) (K.written (sink_of conn.new))) }
+    ensures refused { IfErr result (IsRefused (file_of (file_in accepted.now)) how.now.run.now
+        how.now.party (K.written (sink_of conn.old)) (K.written (sink_of conn.new))) }
 {
     sign_in(alloc, conn, how.user, how.password)?;
     share(alloc, conn, accepted.file(), how.run)?;
@@ -190,17 +92,17 @@ pub fn play_seat<S: Source + Drop, K: Sink + Drop, C: sj_seat_run::Play>(
     )?;
     let gate = NoGate;
     let mut asking = Asking::new(alloc);
-    let seat = take_seat(alloc, accepted, how.party, lanes, &gate)?;
-    let seat = catch_up(alloc, accepted, seat, &own, &mut asking, code)?;
+    let first = take_seat(alloc, accepted, how.party, lanes, &gate)?;
+    let seat = catch_up(alloc, accepted, first, &own, &mut asking, code)?;
     let outcome = go_on(
         alloc,
         conn,
         accepted.file(),
+        how,
         seat,
         &mut streams,
         &mut asking,
         code,
-        how.wait.max(1),
     )?;
     Ok(outcome)
 }

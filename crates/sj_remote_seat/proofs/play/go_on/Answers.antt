@@ -1,0 +1,100 @@
+use Rattle.std.proofs.Common.{◌≡◌, ◌+◌, ◌∙◌, IfSome, Option, Some, ap, get_or, refl, subst, []}
+use Rattle.sj_base.specs.Stream.{put_behind}
+use Rattle.sj_engine.specs.declared.in_lane.ByteIn.{ByteIn}
+use Rattle.sj_engine.specs.declared.out_lane.ByteOut.{ByteOut}
+use Rattle.sj_lang.specs.FileView.{file_of}
+use Rattle.sj_node.specs.Node.{log_of}
+use Rattle.sj_node.specs.Reading.{party_of}
+use Rattle.sj_remote.specs.Conn.{sink_of}
+use Rattle.sj_remote.specs.Streams.{keys_of, seen_of}
+use Rattle.sj_remote_run.specs.Turns.{added_count}
+use Rattle.sj_seat.specs.Views.{node_of}
+use Rattle.sj_seat.specs.declared.guest.Guest.{Guest}
+use Rattle.sj_streams.specs.Words.{words_at}
+use Rattle.sj_work.specs.declared.worker.NoGate.{NoGate}
+use Rattle.sj_remote_seat.specs.Handing.{posts_of}
+use Rattle.sj_remote_seat.specs.Turns.{Goes}
+use Rattle.sj_remote_seat.proofs.GoingLemmas.{going_none, turn_adds, turn_asks, turn_goes}
+use Rattle.sj_remote_seat.proofs.HandedLemmas.{batch_same, number_same, turn_same}
+use Rattle.sj_remote_seat.proofs.play.go_on.Goals as goal
+
+pub loop-init : goal.loop-init
+loop-init g c = record {
+  going = going_none (file_of c.args.file.now) c.args.how.now.run.now (words_at (keys_of c.args.streams.now)) (get_or (seen_of c.args.streams.now) (party_of (node_of c.args.seat)) 0)
+      c.args.seat (g.K.Sink.written (sink_of c.args.conn.now)) c.requires.empty;
+  keys = refl;
+}
+
+pub returns-then-eq : goal.returns-then-eq
+returns-then-eq g c =
+    let written = g.K.Sink.written in
+    let file = file_of c.args.file.now in
+    let keys = words_at (keys_of c.args.streams.now) in
+    let old = c.args.seat in
+    let mid = c.loop.going in
+    let next = c.in_ok-next.next in
+    let seen = seen_of c.loop.streams in
+    let w = c.loop.invariant.going in
+    let t = c.in_ok-next.ensures.turns in
+    let party : party_of (node_of next) ≡ party_of (node_of old) = t.same.party ∙ w.same.party in
+    let last = get_or seen (party_of (node_of old)) 0 in
+    let same = batch_same (words_at (keys_of c.loop.streams)) keys seen file file (party_of (node_of next)) (party_of (node_of old)) (log_of (node_of next)) (log_of (node_of next)) (posts_of next) (posts_of next)
+    (ap words_at c.loop.invariant.keys) refl party refl refl in
+    record {
+      calls = w.calls (t.calls []);
+      new = next;
+      end = last + added_count (log_of (node_of next));
+      goes_on = turn_adds file c.args.how.now.run.now keys (get_or (seen_of c.args.streams.now) (party_of (node_of old)) 0) last old mid next (written (sink_of c.args.conn.now)) (written (sink_of c.loop.conn))
+          (written (sink_of c.hand_in_last.new.conn)) c.requires.parties w t (posts_of next) seen refl (c.in_ok-hand_in_last.ensures ∙ ap (put_behind (written (sink_of c.loop.conn))) same) [];
+      stands = c.in_ok-next.ensures.stands;
+    }
+
+pub returns-in-None : goal.returns-in-None
+returns-in-None g c =
+    let written = g.K.Sink.written in
+    let file = file_of c.args.file.now in
+    let keys = words_at (keys_of c.args.streams.now) in
+    let old = c.args.seat in
+    let mid = c.loop.going in
+    let next = c.in_ok-next.next in
+    let seen = seen_of c.loop.streams in
+    let w = c.loop.invariant.going in
+    let t = c.in_ok-next.ensures.turns in
+    let party : party_of (node_of next) ≡ party_of (node_of old) = t.same.party ∙ w.same.party in
+    let last = get_or seen (party_of (node_of old)) 0 in
+    let wait = c.max.result in
+    let same = turn_same (words_at (keys_of c.loop.streams)) keys seen file file (party_of (node_of next)) (party_of (node_of old)) (log_of (node_of next)) (log_of (node_of next)) (posts_of next) (posts_of next) (Some wait)
+    (ap words_at c.loop.invariant.keys) refl party refl refl in
+    record {
+      calls = w.calls (t.calls []);
+      new = next;
+      end = last + added_count (log_of (node_of next));
+      goes_on = turn_asks file c.args.how.now.run.now keys (get_or (seen_of c.args.streams.now) (party_of (node_of old)) 0) last old mid next (written (sink_of c.args.conn.now)) (written (sink_of c.loop.conn))
+          (written (sink_of c.hand_in.new.conn)) c.requires.parties w t (posts_of next) seen refl wait (c.in_ok-seat.ensures.sent ∙ ap (put_behind (written (sink_of c.loop.conn))) same) [];
+      stands = c.in_ok-next.ensures.stands;
+    }
+
+pub loop-preserved : goal.loop-preserved
+loop-preserved g c =
+    let written = g.K.Sink.written in
+    let file = file_of c.args.file.now in
+    let keys = words_at (keys_of c.args.streams.now) in
+    let old = c.args.seat in
+    let mid = c.loop.going in
+    let next = c.in_ok-next.next in
+    let seen = seen_of c.loop.streams in
+    let w = c.loop.invariant.going in
+    let t = c.in_ok-next.ensures.turns in
+    let party : party_of (node_of next) ≡ party_of (node_of old) = t.same.party ∙ w.same.party in
+    let last = get_or seen (party_of (node_of old)) 0 in
+    let wait = c.max.result in
+    let same = turn_same (words_at (keys_of c.loop.streams)) keys seen file file (party_of (node_of next)) (party_of (node_of old)) (log_of (node_of next)) (log_of (node_of next)) (posts_of next) (posts_of next) (Some wait)
+    (ap words_at c.loop.invariant.keys) refl party refl refl in
+    let goes : Goes next c.in-Some.seat = subst (λ (o : Option (Guest ByteOut ByteIn NoGate)). IfSome o (Goes next)) c.in-Some.is c.in_ok-seat.ensures.goes in
+    record {
+      going = turn_goes file c.args.how.now.run.now keys (get_or (seen_of c.args.streams.now) (party_of (node_of old)) 0) last old mid next (written (sink_of c.args.conn.now)) (written (sink_of c.loop.conn))
+          (written (sink_of c.hand_in.new.conn)) c.requires.parties w t (posts_of next) seen refl wait (get_or (seen_of c.hand_in.new.streams) (party_of (node_of old)) 0) c.in-Some.seat goes
+          (number_same (seen_of c.hand_in.new.streams) seen (party_of (node_of next)) (party_of (node_of old)) (log_of (node_of next)) (log_of (node_of next)) party refl c.in_ok-seat.ensures.number)
+          (c.in_ok-seat.ensures.sent ∙ ap (put_behind (written (sink_of c.loop.conn))) same);
+      keys = c.in_ok-seat.ensures.keys ∙ c.loop.invariant.keys;
+    }
