@@ -1,8 +1,8 @@
 //! A seat that takes over a customer whom an agency hands on.
 
 use sj_base::{EndId, Msg};
-use sj_seat::{Guard, SeatRefusal, Wish};
-use sj_seat_run::{Answer, Play};
+use sj_seat::{Answer, Ask, Guard, Outcome, SeatRefusal, Wish};
+use sj_seat_run::Play;
 use std::thread;
 use std::time::Duration;
 
@@ -48,7 +48,11 @@ impl<'a> Supplier<'a> {
     }
 
     /// What it does after that, once it is done.
-    fn after(&self, stage: Stage, msg: Option<Msg>) -> Stage {
+    fn after(&self, stage: Stage, outcome: Outcome) -> Stage {
+        let msg = match outcome {
+            Outcome::Took { msg, .. } => Some(msg),
+            Outcome::Done | Outcome::Opened { .. } => None,
+        };
         match (stage, msg) {
             (Stage::Listens(desk), Some(Msg::Label(label))) if label == self.accept => {
                 Stage::TakesOver(desk)
@@ -80,17 +84,18 @@ fn call_of(stage: Stage, date: u32) -> Option<Wish> {
 }
 
 impl Play for Supplier<'_> {
-    fn next(&mut self, seat: Guard<'_>, answer: Option<Answer>) -> Option<Wish> {
+    fn next(&mut self, seat: Guard<'_>, answer: Option<Answer>) -> Option<Ask> {
         thread::sleep(self.rt, Duration::from_millis(self.pause));
         let stage = match (self.stage, answer) {
             // at first it has the agency's end alone
             (None, _) => Stage::Listens(seat.ends.get(0)?.end),
-            (Some(stage), Some(Ok(msg))) => self.after(stage, msg),
+            (Some(stage), Some(Ok(outcome))) => self.after(stage, outcome),
             // nothing came yet: it asks again
             (Some(stage), Some(Err(SeatRefusal::Waiting))) => stage,
             _ => Stage::Over,
         };
         self.stage = Some(stage);
-        call_of(stage, self.date)
+        let wish = call_of(stage, self.date)?;
+        Some(Ask::Step(wish))
     }
 }

@@ -1,11 +1,11 @@
 -- What becomes of a guest by one thing that its code asks for after another (as in sj_seat_run, which keeps it to itself).
-use Rattle.std.proofs.Common.{◌≡◌, ◌∙◌, length, List, ◌∷◌, Option, None, Result, Ok, Err, OnOk, OnErr, refl, sym, arith}
-use Rattle.sj_base.specs.declared.Msg.{Msg}
+use Rattle.std.proofs.Common.{◌≡◌, ◌∙◌, length, List, ◌∷◌, None, Result, Ok, Err, IfOk, OnErr, refl, sym, arith}
 use Rattle.sj_lang.specs.FileAt.{FileAt}
 use Rattle.sj_node.specs.Reading.{parties_of}
 use Rattle.sj_seat_laws.specs.Calls.{Call}
 use Rattle.sj_seat.specs.Views.{node_of, seat_of, worker_of}
 use Rattle.sj_seat.specs.Went.{Keeps, Went}
+use Rattle.sj_seat.specs.declared.ask.Outcome.{Outcome}
 use Rattle.sj_seat.specs.declared.guest.Guest.{Guest}
 use Rattle.sj_seat.specs.declared.refusal.SeatRefusal.{SeatRefusal}
 use Rattle.sj_seat.proofs.AfterLemmas.{done_after, keeps_later, nothing_done}
@@ -45,9 +45,9 @@ module _ {O I G : Type 0} (k : LaneLaws O I) where
   played_rest a b went keeps counts = record { calls = λ rest. rest; went = went; keeps = keeps; counts = counts }
 
   -- what it asks for, whatever the answer is
-  pub played_call : (a b : Guest O I G) (call : Call) (r : Result (Option Msg) SeatRefusal)
-      → ((file : FileAt) (rest : List Call) → length file.parties ≡ parties_of (node_of a) → OnOk r (Went k.outward k.inward file (call ∷ rest) rest a b))
+  pub played_call : (a b : Guest O I G) (call : Outcome → Call) (r : Result Outcome SeatRefusal)
+      → IfOk r (λ o. (file : FileAt) (rest : List Call) → length file.parties ≡ parties_of (node_of a) → Went k.outward k.inward file (call o ∷ rest) rest a b)
       → ((file : FileAt) (rest : List Call) → length file.parties ≡ parties_of (node_of a) → OnErr r (Went k.outward k.inward file rest rest a b))
       → Keeps (node_of a) (node_of b) → CountedBy k a.worker b.worker → PlayedBy a b
-  played_call a b call (Ok m) ok err keeps counts = record { calls = λ rest. call ∷ rest; went = ok; keeps = keeps; counts = counts }
+  played_call a b call (Ok m) ok err keeps counts = record { calls = λ rest. call m ∷ rest; went = ok; keeps = keeps; counts = counts }
   played_call a b call (Err e) ok err keeps counts = played_rest a b err keeps counts

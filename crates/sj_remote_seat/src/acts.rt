@@ -1,6 +1,7 @@
 //! An act of the party's stream, done again by what its code asks for.
 ghost use Rattle.std.specs.Prelude.{◌≡◌, ◌∷◌, [], IsTrue, OnOk};
 ghost use Rattle.sj_node.specs.Node.{log_of};
+ghost use Rattle.sj_seat.specs.Places.{CarriesPlaces};
 ghost use Rattle.sj_seat.specs.Views.{node_of};
 ghost use Rattle.sj_seat_run.specs.Played.{Played};
 
@@ -13,7 +14,7 @@ use sj_end::{Entry, Line, Note};
 use sj_lane::{InLane, OutLane};
 use sj_node::Node;
 use sj_remote_run::PlayRefusal;
-use sj_seat::{Guest, SeatRefusal, Wish};
+use sj_seat::{Ask, Guard, Guest, OpenWish, SeatRefusal, Wish};
 use sj_seat_run::Play;
 use sj_work::{Gate, Stop};
 
@@ -37,8 +38,8 @@ pub(crate) fn is_only(node: &Node, entry: &Entry) -> bool
     is_the_line(&made, &Line { party, entry })
 }
 
-/// Whether the note may be that of the call. What a take gets stands in the note alone.
-fn is_noted(wish: Wish, note: Note) -> bool {
+/// Whether the note may be that of the step. What a take gets stands in the note alone.
+fn is_step_noted(wish: Wish, note: Note) -> bool {
     match (wish, note) {
         (Wish::Send { end, msg }, Note::Sent { end: on, msg: sent }) => end == on && msg == sent,
         (
@@ -54,17 +55,40 @@ fn is_noted(wish: Wish, note: Note) -> bool {
     }
 }
 
-/// Does the call that the entry notes.
+/// Whether the note may be that of the opening. Its protocol stands in no note.
+fn is_opening_noted(wish: OpenWish, note: Note) -> bool {
+    match (wish, note) {
+        (OpenWish::Request { party, .. }, Note::Request { to, .. }) => party == to,
+        (OpenWish::Accept { party, .. }, Note::Accept { from, .. }) => party == from,
+        _ => false,
+    }
+}
+
+/// Whether the note may be that of what the code asks for.
+fn is_noted(ask: &Ask, note: Note) -> bool {
+    match ask {
+        Ask::Step(wish) => is_step_noted(*wish, note),
+        Ask::Open(wish) => is_opening_noted(*wish, note),
+        Ask::TakeAny(ends) => match note {
+            Note::Took { end, .. } => ends.contains(&end),
+            _ => false,
+        },
+    }
+}
+
+/// Does what the code asks for, which the entry notes.
 fn repeat<O: OutLane, I: InLane, G: Gate>(
     guest: &mut Guest<'_, O, I, G>,
     asking: &mut Asking,
-    wish: Wish,
     entry: &Entry,
 ) -> Result<(), SeatPlayRefusal>
-    ensures played { Played O.OutLane I.InLane guest.old guest.new }
+    ensures played { OnOk result (Played O.OutLane I.InLane guest.old guest.new) }
     ensures only { OnOk result (log_of (node_of guest.new) ≡ entry.now ∷ []) }
 {
-    let told = perform(guest, wish);
+    let Some(ask) = asking.asked() else {
+        return Err(SeatPlayRefusal::OtherCode);
+    };
+    let told = perform(guest, ask);
     asking.answer(told);
     match told {
         Ok(_) if is_only(guest.worker().node(), entry) => Ok(()),
@@ -75,8 +99,26 @@ fn repeat<O: OutLane, I: InLane, G: Gate>(
     }
 }
 
-/// Asks the code until it asks for the call that the entry notes, and does it. Any other call is
-/// answered by its refusal, or as waiting.
+/// The first rule that refuses what the code asks for, if one does.
+fn refusal_of(guard: Guard<'_>, ask: &Ask) -> Option<SeatRefusal>
+    requires { CarriesPlaces guard.table.now }
+{
+    match ask {
+        Ask::Step(wish) => guard.check(*wish).err(),
+        Ask::Open(wish) => guard.open(*wish).err(),
+        Ask::TakeAny(ends) => {
+            for &end in ends {
+                if let Err(refusal) = guard.take(end) {
+                    return Some(refusal);
+                }
+            }
+            None
+        }
+    }
+}
+
+/// Asks the code until it asks for what the entry notes, and does that. Anything else is answered by
+/// its refusal, or as waiting.
 pub(crate) fn ask_for<O: OutLane, I: InLane, G: Gate, C: Play>(
     guest: &mut Guest<'_, O, I, G>,
     asking: &mut Asking,
@@ -88,15 +130,16 @@ pub(crate) fn ask_for<O: OutLane, I: InLane, G: Gate, C: Play>(
 {
     let mut asked: u32 = 0;
     for _ in 0..u64::MAX {
-        let Some(wish) = asking.asks(code, guest.guard()) else {
+        asking.turn_to(code, guest.guard());
+        let Some(ask) = asking.asked() else {
             return Err(SeatPlayRefusal::OtherCode);
         };
-        if is_noted(wish, entry.note) {
-            return repeat(guest, asking, wish, entry);
+        if is_noted(ask, entry.note) {
+            return repeat(guest, asking, entry);
         }
-        match guest.guard().check(wish) {
-            Err(refusal) => asking.answer(Err(refusal)),
-            Ok(_) => {
+        match refusal_of(guest.guard(), ask) {
+            Some(refusal) => asking.answer(Err(refusal)),
+            None => {
                 if asked >= MOST_ASKED {
                     return Err(SeatPlayRefusal::OtherCode);
                 }

@@ -1,8 +1,8 @@
 //! What the code asks for, and what it is answered.
 
 use sj_base::NoMemory;
-use sj_seat::{Guard, SeatRefusal, Wish};
-use sj_seat_run::{Answer, Play};
+use sj_seat::{Answer, Ask, Guard, SeatRefusal};
+use sj_seat_run::Play;
 use std::alloc::Global;
 
 /// So many calls that wait are kept in mind.
@@ -11,21 +11,21 @@ const MOST_WAITING: usize = 1_000;
 /// What the code asks for, and what it was answered last.
 #[derive(Drop)]
 pub(crate) struct Asking {
-    /// The call that isn't answered yet.
-    wish: Option<Wish>,
-    /// The answer to the call before it, and none at first.
+    /// What isn't answered yet.
+    ask: Option<Ask>,
+    /// The answer to what it asked for before, and none at first.
     answer: Option<Answer>,
     /// It asks for nothing more.
     over: bool,
-    /// The calls that were answered as waiting since something came.
-    waiting: Vec<Wish>,
+    /// What was answered as waiting since something came.
+    waiting: Vec<Ask>,
 }
 
 impl Asking {
     /// The code before its first call.
     pub fn new(alloc: Global) -> Asking {
         Asking {
-            wish: None,
+            ask: None,
             answer: None,
             over: false,
             waiting: Vec::new(alloc),
@@ -37,47 +37,69 @@ impl Asking {
         self.over
     }
 
-    /// What the code asks for. It isn't asked again before that is answered, nor once it is over.
-    pub fn asks<C: Play>(&mut self, code: &mut C, seat: Guard<'_>) -> Option<Wish> {
-        if self.wish.is_none() && !self.over {
-            self.wish = code.next(seat, self.answer);
-            self.over = self.wish.is_none();
+    /// Asks the code. It isn't asked again before that is answered, nor once it is over.
+    pub fn turn_to<C: Play>(&mut self, code: &mut C, seat: Guard<'_>) {
+        if self.ask.is_none() && !self.over {
+            self.ask = code.next(seat, self.answer);
+            self.over = self.ask.is_none();
         }
-        self.wish
     }
 
-    /// The call is answered.
+    /// What the code asks for.
+    pub fn asked(&self) -> Option<&Ask> {
+        self.ask.as_ref()
+    }
+
+    /// What the code asked for is answered.
     pub fn answer(&mut self, answer: Answer) {
         self.answer = Some(answer);
-        self.wish = None;
+        self.ask = None;
     }
 
-    /// The call is answered, unless the code knows already that it waits. Answers whether it waits
-    /// on.
-    pub fn answer_once(&mut self, wish: Wish, answer: Answer) -> Result<bool, NoMemory> {
-        if answer == Err(SeatRefusal::Waiting) {
-            if self.knows(wish) {
-                return Ok(true);
-            }
-            self.waiting.push(wish)?;
+    /// What the code asked for is answered, unless it knows already that it waits. Answers whether it
+    /// waits on.
+    pub fn answer_once(&mut self, answer: Answer) -> Result<bool, NoMemory> {
+        if answer != Err(SeatRefusal::Waiting) {
+            self.answer(answer);
+            return Ok(false);
+        }
+        if self.knows() {
+            return Ok(true);
+        }
+        self.waiting.reserve(1)?;
+        if let Some(ask) = self.ask.take() {
+            self.waiting.push_reserved(ask);
         }
         self.answer(answer);
         Ok(false)
     }
 
-    /// Whether the call was answered as waiting since something came, or so many were that no more
-    /// are kept in mind.
-    fn knows(&self, wish: Wish) -> bool {
-        for &known in &self.waiting {
-            if known == wish {
+    /// Whether that was answered as waiting since something came, or so much was that no more is
+    /// kept in mind.
+    fn knows(&self) -> bool {
+        let Some(ask) = &self.ask else {
+            return false;
+        };
+        for known in &self.waiting {
+            if is_same(known, ask) {
                 return true;
             }
         }
         self.waiting.len() >= MOST_WAITING
     }
 
-    /// Something came, so a call that waited may be done now.
+    /// Something came, so what waited may be done now.
     pub fn forget(&mut self) {
         self.waiting.clear();
+    }
+}
+
+/// Whether the code asks for the same.
+fn is_same(these: &Ask, those: &Ask) -> bool {
+    match (these, those) {
+        (Ask::Step(a), Ask::Step(b)) => *a == *b,
+        (Ask::Open(a), Ask::Open(b)) => *a == *b,
+        (Ask::TakeAny(a), Ask::TakeAny(b)) => a.as_slice() == b.as_slice(),
+        _ => false,
     }
 }

@@ -5,18 +5,18 @@ use crate::asking::Asking;
 use crate::stops::stays;
 use sj_base::NoMemory;
 use sj_lane::{InLane, OutLane};
-use sj_seat::{Guest, Wish};
-use sj_seat_run::{Answer, Play};
+use sj_seat::{Answer, Ask, Guest};
+use sj_seat_run::Play;
 use sj_work::Gate;
 
 /// Does what the code asks for once.
 pub(crate) fn perform<O: OutLane, I: InLane, G: Gate>(
     guest: &mut Guest<'_, O, I, G>,
-    wish: Wish,
+    ask: &Ask,
 ) -> Answer
     ensures { Played O.OutLane I.InLane guest.old guest.new }
 {
-    guest.perform(wish)
+    guest.ask(ask)
 }
 
 /// Does what the code asks for, until it asks again for a call that waits, or for nothing more.
@@ -31,11 +31,12 @@ fn ask_on<O: OutLane, I: InLane, G: Gate, C: Play>(
         if stays(guest.worker().stop()) {
             return Ok(());
         }
-        let Some(wish) = asking.asks(code, guest.guard()) else {
+        asking.turn_to(code, guest.guard());
+        let Some(ask) = asking.asked() else {
             return Ok(());
         };
-        let told = perform(guest, wish);
-        if asking.answer_once(wish, told)? {
+        let told = perform(guest, ask);
+        if asking.answer_once(told)? {
             return Ok(());
         }
     }
