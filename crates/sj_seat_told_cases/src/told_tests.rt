@@ -1,5 +1,9 @@
 //! Transcripts of small files of which a party is played by code. The code calls what the party of
 //! the file did, as the lines report it.
+ghost use Rattle.std.specs.Prelude.{IfOk};
+ghost use Rattle.sj_check.specs.Held.{file_in};
+ghost use Rattle.sj_lang.specs.FileView.{file_of};
+ghost use Rattle.sj_seat_told.specs.Quiet.{IsQuietOf};
 
 use sj_check::{Accepted, check};
 use sj_core::World;
@@ -76,7 +80,9 @@ fn seated_world(
     accepted: &Accepted,
     party: usize,
     most: usize,
-) -> Result<SeatedWorld, Fail> {
+) -> Result<SeatedWorld, Fail>
+    ensures { IfOk result (λ w. IsQuietOf (file_of (file_in accepted.now)) w) }
+{
     let mut own = World::start(alloc, accepted)?;
     own.drain()?;
     let mut lines = Vec::new(alloc);
