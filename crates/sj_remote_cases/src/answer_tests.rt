@@ -1,7 +1,6 @@
 //! Commands and replies, to the byte.
 
 use crate::server::Server;
-use sj_base::NoMemory;
 use std::alloc::Global;
 use std::test::Fail;
 
@@ -40,24 +39,31 @@ const TALK: [(&[u8], &[u8]); 10] = [
     ),
 ];
 
-/// How many of the replies come, up to the first that is another.
-fn replies_that_come(alloc: Global) -> Result<usize, NoMemory> {
-    let mut server = Server::new(alloc, Some(b"p"));
+/// Whether the server answers so.
+fn answers(server: &mut Server, sent: &[u8], wanted: &[u8]) -> bool {
     let mut buf = [0; 256];
+    if server.take(sent).is_err() {
+        return false;
+    }
+    let n = server.give(&mut buf);
+    buf.get(..n) == Some(wanted)
+}
+
+/// How many of the replies come, up to the first that is another.
+fn replies_that_come(alloc: Global) -> usize {
+    let mut server = Server::new(alloc, Some(b"p"));
     let mut count: usize = 0;
     for (sent, wanted) in &TALK {
-        server.take(sent)?;
-        let n = server.give(&mut buf);
-        if buf.get(..n) != Some(*wanted) {
+        if !answers(&mut server, sent, wanted) {
             break;
         }
         count = count.saturating_add(1);
     }
-    Ok(count)
+    count
 }
 
 #[test]
 fn the_server_in_memory_answers_as_redis_does(rt: HostRuntime) -> Result<(), Fail> {
-    assert_eq!(rt; replies_that_come(rt.alloc())?, TALK.len());
+    assert_eq!(rt; replies_that_come(rt.alloc()), TALK.len());
     Ok(())
 }

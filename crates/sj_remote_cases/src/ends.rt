@@ -45,7 +45,7 @@ impl Source for FromServer<'_> {
         }
         match self.server.try_borrow_mut() {
             Ok(mut server) => {
-                let n = server.give(buf);
+                let n = server.give(buf).min(buf.len());
                 self.at_end = n == 0;
                 Ok(n)
             }

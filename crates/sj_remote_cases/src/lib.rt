@@ -6,6 +6,8 @@ mod answer_tests;
 #[cfg(test)]
 mod ends;
 #[cfg(test)]
+mod link;
+#[cfg(test)]
 mod play_tests;
 #[cfg(test)]
 mod process;

@@ -1,8 +1,9 @@
 //! Parties of small files, played to their end by one process after another.
 
-use crate::process::{FILE, accepted, lines, process};
-use crate::server::{Deed, Server};
-use sj_grammar::is;
+use crate::link::Deed;
+use crate::process::{FILE, accepted, process, stand};
+use crate::server::Server;
+use sj_check::Accepted;
 use sj_remote_run::Outcome;
 use std::alloc::Global;
 use std::cell::RefCell;
@@ -22,6 +23,9 @@ const OF_A: &[u8] = b"1 a send 0.0 int 1\n2 a close 0.0\n|6 a from b fin 0.0 0 0
 const OF_B: &[u8] =
     b"2 b from a carry 0.1 0 0 0 int 1\n3 b from a fin 0.1 0 1\n4 b take 0.1 int 1\n5 b close 0.1\n|";
 
+// Each process is cut off at its first to sixth command.
+const CUTS: u64 = 6;
+
 // Whose process is played in the shop, and how it ends.
 const TURNS: [(u16, Outcome); 7] = [
     (0, Outcome::Waits),
@@ -34,44 +38,59 @@ const TURNS: [(u16, Outcome); 7] = [
 ];
 
 /// How many of the processes end so, up to the first that doesn't.
-fn turns_that_go_so(alloc: Global) -> Result<usize, Fail> {
-    let accepted = accepted(alloc, SHOP)?;
-    let server = RefCell::new(Server::new(alloc, None));
+fn count_turns(alloc: Global, server: &RefCell<Server>, accepted: &Accepted) -> usize {
     let mut count: usize = 0;
     for (party, wanted) in &TURNS {
-        if process(alloc, &server, &accepted, *party, None, None)? != Ok(*wanted) {
+        if process(alloc, server, accepted, *party, None, None) != Some(Ok(*wanted)) {
             break;
         }
         count = count.saturating_add(1);
     }
-    Ok(count)
+    count
 }
 
-/// Whether all lines stand in the end, once each. The first process of each turn is cut off at that
-/// command, and the next one goes on.
-fn all_stands(alloc: Global, at: u64) -> Result<bool, Fail> {
-    let accepted = accepted(alloc, FILE)?;
+/// How many of the processes end so in the shop.
+fn turns_that_go_so(alloc: Global) -> Option<usize> {
+    let accepted = accepted(alloc, SHOP)?;
     let server = RefCell::new(Server::new(alloc, None));
-    for party in [0, 1, 0] {
-        let due = Some((at, Deed::Cuts(3)));
-        let _ = process(alloc, &server, &accepted, party, None, due)?;
-        let _ = process(alloc, &server, &accepted, party, None, None)?;
-    }
-    let a = lines(alloc, &server, 0)?;
-    let b = lines(alloc, &server, 1)?;
-    Ok(is(&a, OF_A) && is(&b, OF_B))
+    Some(count_turns(alloc, &server, &accepted))
 }
 
 #[test]
 fn two_parties_take_turns(rt: HostRuntime) -> Result<(), Fail> {
-    assert_eq!(rt; turns_that_go_so(rt.alloc())?, TURNS.len());
+    assert_eq!(rt; turns_that_go_so(rt.alloc()), Some(TURNS.len()));
     Ok(())
+}
+
+/// The first process of each turn is cut off at that command, and the next one goes on.
+fn play_cut(alloc: Global, server: &RefCell<Server>, accepted: &Accepted, at: u64) {
+    for party in [0, 1, 0] {
+        let due = Some((at, Deed::Cuts(3)));
+        let _ = process(alloc, server, accepted, party, None, due);
+        let _ = process(alloc, server, accepted, party, None, None);
+    }
+}
+
+/// Whether all lines stand in the end, once each, where processes are cut off at that command.
+fn all_stands(alloc: Global, accepted: &Accepted, at: u64) -> bool {
+    let server = RefCell::new(Server::new(alloc, None));
+    play_cut(alloc, &server, accepted, at);
+    stand(alloc, &server, b"sj:{r}:log:0", OF_A) && stand(alloc, &server, b"sj:{r}:log:1", OF_B)
+}
+
+/// How many of the cuts lose nothing, up to the first that does.
+fn harmless_cuts(alloc: Global) -> Option<u64> {
+    let accepted = accepted(alloc, FILE)?;
+    for at in 0..CUTS {
+        if !all_stands(alloc, &accepted, at) {
+            return Some(at);
+        }
+    }
+    Some(CUTS)
 }
 
 #[test]
 fn a_cut_connection_loses_nothing(rt: HostRuntime) -> Result<(), Fail> {
-    for at in 0..6 {
-        assert!(rt; all_stands(rt.alloc(), at)?, "cut at {at}");
-    }
+    assert_eq!(rt; harmless_cuts(rt.alloc()), Some(CUTS));
     Ok(())
 }

@@ -1,8 +1,9 @@
 //! What a process is refused by, case by case.
 
+use crate::link::Deed;
 use crate::process::alone;
-use crate::server::Deed;
 use sj_remote_run::{Outcome, PlayRefusal};
+use std::alloc::Global;
 use std::test::Fail;
 
 const OF_A: &[u8] = b"sj:{r}:log:0";
@@ -195,12 +196,19 @@ const REFUSED: [(u64, Deed, PlayRefusal, &str); 22] = [
     ),
 ];
 
+/// The first case that ends otherwise.
+fn case_amiss(alloc: Global) -> Option<&'static str> {
+    for (at, deed, refusal, what) in &REFUSED {
+        if alone(alloc, None, None, Some((*at, *deed))) != Some(Err(*refusal)) {
+            return Some(*what);
+        }
+    }
+    None
+}
+
 #[test]
 fn each_refusal_has_its_name(rt: HostRuntime) -> Result<(), Fail> {
-    for (at, deed, refusal, what) in &REFUSED {
-        let outcome = alone(rt.alloc(), None, None, Some((*at, *deed)))?;
-        assert_eq!(rt; outcome, Err(*refusal), "{what}");
-    }
+    assert_eq!(rt; case_amiss(rt.alloc()), None);
     Ok(())
 }
 
@@ -217,10 +225,20 @@ const GIVEN: [(Option<&[u8]>, Option<&[u8]>, Result<Outcome, PlayRefusal>); 5] =
     (None, None, Ok(Outcome::Waits)),
 ];
 
+/// How many of the cases end so, up to the first that doesn't.
+fn passwords_that_go_so(alloc: Global) -> usize {
+    let mut count: usize = 0;
+    for (wanted, given, outcome) in &GIVEN {
+        if alone(alloc, *wanted, *given, None) != Some(*outcome) {
+            break;
+        }
+        count = count.saturating_add(1);
+    }
+    count
+}
+
 #[test]
 fn a_password_is_asked_for(rt: HostRuntime) -> Result<(), Fail> {
-    for (wanted, given, outcome) in &GIVEN {
-        assert_eq!(rt; alone(rt.alloc(), *wanted, *given, None)?, *outcome);
-    }
+    assert_eq!(rt; passwords_that_go_so(rt.alloc()), GIVEN.len());
     Ok(())
 }

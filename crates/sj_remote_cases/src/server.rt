@@ -1,12 +1,12 @@
 //! A server in memory, which takes one command after another.
 
+use crate::link::{Deed, Link};
 use crate::replies::{put_came, put_name};
 use crate::standing::Standing;
-use crate::words::{number_in, word, words_of};
+use crate::words::{number_in, word, word_count, words_from, words_of};
 use sj_base::NoMemory;
 use sj_grammar::is;
-use sj_resp::{Token, TokenDecoder, put_word};
-use sj_streams::Reply;
+use sj_resp::{Token, put_word};
 use sj_text::put;
 use std::alloc::Global;
 use std::collections::VecDeque;
@@ -25,40 +25,13 @@ const LATE: &[u8] =
 
 const UNKNOWN: &[u8] = b"-ERR unknown command\r\n";
 
-/// What else happens when a command comes.
-#[derive(Clone, Copy)]
-pub(crate) enum Deed {
-    /// Another process adds an entry before it.
-    Adds {
-        key: &'static [u8],
-        number: u64,
-        words: &'static [&'static [u8]],
-    },
-    /// Another process leaves this text as the run's file before it.
-    Shares(&'static [u8]),
-    /// From it on the memory is full.
-    Fills,
-    /// These bytes come in place of its reply.
-    Says(&'static [u8]),
-    /// So many bytes of its reply come, and then the end.
-    Cuts(usize),
-}
-
 /// What stands, and the one connection.
 #[derive(Drop)]
 pub(crate) struct Server {
     alloc: Global,
     pub standing: Standing,
     password: Option<&'static [u8]>,
-    /// What happens at the command of that number, counted on the connection from 0.
-    due: Option<(u64, Deed)>,
-    is_full: bool,
-    signed: bool,
-    is_cut: bool,
-    commands: u64,
-    decoder: TokenDecoder,
-    coming: Reply,
-    out: Vec<u8>,
+    link: Link,
 }
 
 impl Server {
@@ -68,40 +41,22 @@ impl Server {
             alloc,
             standing: Standing::new(alloc),
             password,
-            due: None,
-            is_full: false,
-            signed: false,
-            is_cut: false,
-            commands: 0,
-            decoder: TokenDecoder::new(alloc),
-            coming: Reply::new(alloc),
-            out: Vec::new(alloc),
+            link: Link::new(alloc, None),
         }
     }
 
     /// A new connection, on which that happens. What came on the last one is lost.
     pub(crate) fn connect(&mut self, due: Option<(u64, Deed)>) {
-        self.due = due;
-        self.is_full = false;
-        self.signed = false;
-        self.is_cut = false;
-        self.commands = 0;
-        self.decoder = TokenDecoder::new(self.alloc);
-        self.coming = Reply::new(self.alloc);
-        self.out = Vec::new(self.alloc);
+        self.link = Link::new(self.alloc, due);
     }
 
     /// Takes bytes that come, and answers each command that is whole then.
     pub(crate) fn take(&mut self, piece: &[u8]) -> Result<(), NoMemory> {
-        self.decoder.feed(piece)?;
+        self.link.hear(piece)?;
         for _ in 0..u64::MAX {
-            match self.coming.gather(&mut self.decoder) {
-                Ok(true) => {
-                    let came = std::mem::replace(&mut self.coming, Reply::new(self.alloc));
-                    self.run(came.into_tokens())?;
-                }
-                Ok(false) => return Ok(()),
-                Err(_) => return Err(NoMemory),
+            match self.link.next(self.alloc)? {
+                Some(command) => self.run(&command)?,
+                None => return Ok(()),
             }
         }
         Ok(())
@@ -109,121 +64,122 @@ impl Server {
 
     /// Gives bytes that are to go out, and answers how many.
     pub(crate) fn give(&mut self, buf: &mut [u8]) -> usize {
-        let n = buf.len().min(self.out.len());
-        buf[..n].copy_from_slice(&self.out[..n]);
-        let left = self.out.len() - n;
-        self.out.copy_within(n.., 0);
-        self.out.truncate(left);
-        n
+        self.link.give(buf)
     }
 
     /// Does a command, with what else happens then.
-    fn run(&mut self, tokens: VecDeque<Token>) -> Result<(), NoMemory> {
-        let words = words_of(self.alloc, tokens)?;
-        let number = self.commands;
-        self.commands = number.saturating_add(1);
-        if self.is_cut {
+    fn run(&mut self, command: &VecDeque<Token>) -> Result<(), NoMemory> {
+        if self.link.is_cut {
             return Ok(());
         }
-        let Some((at, deed)) = self.due else {
-            return self.answer(&words);
-        };
-        if at != number {
-            return self.answer(&words);
-        }
-        self.happen(deed)?;
-        match deed {
-            Deed::Says(text) => put(&mut self.out, text),
-            Deed::Cuts(most) => {
-                let before = self.out.len();
-                self.answer(&words)?;
-                self.out.truncate(before.saturating_add(most));
-                self.is_cut = true;
-                Ok(())
+        match self.link.deed() {
+            Some(Deed::Says(text)) => put(&mut self.link.out, text),
+            Some(Deed::Cuts(most)) => self.cut(command, most),
+            Some(deed) => {
+                self.happen(deed)?;
+                self.answer(command)
             }
-            _ => self.answer(&words),
+            None => self.answer(command),
         }
+    }
+
+    /// Does a command, and ends the connection after so many bytes of the reply.
+    fn cut(&mut self, command: &VecDeque<Token>, most: usize) -> Result<(), NoMemory> {
+        let before = self.link.out.len();
+        self.answer(command)?;
+        self.link.out.truncate(before.saturating_add(most));
+        self.link.is_cut = true;
+        Ok(())
     }
 
     /// What others do before a command.
     fn happen(&mut self, deed: Deed) -> Result<(), NoMemory> {
         match deed {
-            Deed::Adds { key, number, words } => {
-                let mut all = Vec::new(self.alloc);
-                for word in words {
-                    all.push(Vec::from_slice(self.alloc, word)?)?;
-                }
-                self.standing.add(key, number, all)?;
-                Ok(())
-            }
+            Deed::Adds { key, number, words } => self.note(key, number, words),
             Deed::Shares(text) => {
                 self.standing.share(b"sj:{r}:file", text)?;
                 Ok(())
             }
-            Deed::Fills => {
-                self.is_full = true;
+            _ => {
+                self.link.is_full = true;
                 Ok(())
             }
-            _ => Ok(()),
         }
+    }
+
+    /// Another process adds an entry.
+    fn note(&mut self, key: &[u8], number: u64, words: &[&[u8]]) -> Result<(), NoMemory> {
+        let words = words_of(self.alloc, words)?;
+        self.standing.add(key, number, words)?;
+        Ok(())
     }
 
     /// The reply to a command.
-    fn answer(&mut self, words: &[Vec<u8>]) -> Result<(), NoMemory> {
-        let name = word(words, 0);
+    fn answer(&mut self, command: &VecDeque<Token>) -> Result<(), NoMemory> {
+        let name = word(command, 0);
         if is(name, b"AUTH") {
-            return self.sign_in(words);
+            return self.sign_in(command);
         }
-        if self.password.is_some() && !self.signed {
-            return put(&mut self.out, NOAUTH);
+        if self.password.is_some() && !self.link.signed {
+            return put(&mut self.link.out, NOAUTH);
         }
         if is(name, b"GET") {
-            return match self.standing.text(word(words, 1)) {
-                Some(text) => put_word(&mut self.out, text),
-                None => put(&mut self.out, b"$-1\r\n"),
-            };
+            return self.get(command);
         }
         if is(name, b"XREAD") {
-            return put_came(&mut self.out, self.alloc, &self.standing, words);
+            return put_came(&mut self.link.out, &self.standing, command);
         }
-        if self.is_full {
-            return put(&mut self.out, OOM);
+        if self.link.is_full {
+            return put(&mut self.link.out, OOM);
         }
         if is(name, b"SETNX") {
-            let is_new = self.standing.share(word(words, 1), word(words, 2))?;
-            let reply: &[u8] = if is_new { b":1\r\n" } else { b":0\r\n" };
-            return put(&mut self.out, reply);
+            return self.share(command);
         }
         if is(name, b"XADD") {
-            return self.add(words);
+            return self.add(command);
         }
-        put(&mut self.out, UNKNOWN)
+        put(&mut self.link.out, UNKNOWN)
     }
 
     /// `AUTH`, with a user or without.
-    fn sign_in(&mut self, words: &[Vec<u8>]) -> Result<(), NoMemory> {
+    fn sign_in(&mut self, command: &VecDeque<Token>) -> Result<(), NoMemory> {
         let Some(password) = self.password else {
-            return put(&mut self.out, NO_PASSWORD);
+            return put(&mut self.link.out, NO_PASSWORD);
         };
-        let is_known = words.len() < 3 || is(word(words, 1), b"default");
-        self.signed = is_known && is(word(words, words.len().saturating_sub(1)), password);
-        let reply: &[u8] = if self.signed { b"+OK\r\n" } else { WRONGPASS };
-        put(&mut self.out, reply)
+        let count = word_count(command);
+        let is_known = count < 3 || is(word(command, 1), b"default");
+        self.link.signed = is_known && is(word(command, count.saturating_sub(1)), password);
+        let reply: &[u8] = if self.link.signed {
+            b"+OK\r\n"
+        } else {
+            WRONGPASS
+        };
+        put(&mut self.link.out, reply)
+    }
+
+    /// `GET`.
+    fn get(&mut self, command: &VecDeque<Token>) -> Result<(), NoMemory> {
+        match self.standing.text(word(command, 1)) {
+            Some(text) => put_word(&mut self.link.out, text),
+            None => put(&mut self.link.out, b"$-1\r\n"),
+        }
+    }
+
+    /// `SETNX`.
+    fn share(&mut self, command: &VecDeque<Token>) -> Result<(), NoMemory> {
+        let is_new = self.standing.share(word(command, 1), word(command, 2))?;
+        let reply: &[u8] = if is_new { b":1\r\n" } else { b":0\r\n" };
+        put(&mut self.link.out, reply)
     }
 
     /// `XADD`, with the number of the entry.
-    fn add(&mut self, words: &[Vec<u8>]) -> Result<(), NoMemory> {
-        let number = number_in(word(words, 2));
-        let mut fields = Vec::new(self.alloc);
-        for (at, word) in words.iter().enumerate() {
-            if at > 2 {
-                fields.push(Vec::from_slice(self.alloc, word)?)?;
-            }
-        }
-        if self.standing.add(word(words, 1), number, fields)? {
-            put_name(&mut self.out, number)
+    fn add(&mut self, command: &VecDeque<Token>) -> Result<(), NoMemory> {
+        let number = number_in(word(command, 2));
+        let fields = words_from(self.alloc, command, 3)?;
+        if self.standing.add(word(command, 1), number, fields)? {
+            put_name(&mut self.link.out, number)
         } else {
-            put(&mut self.out, LATE)
+            put(&mut self.link.out, LATE)
         }
     }
 }

@@ -64,22 +64,38 @@ impl Standing {
         Ok(true)
     }
 
-    /// The entries under that key; none where there is no stream.
-    pub(crate) fn entries(&self, key: &[u8]) -> &[Entry] {
-        for stream in &self.streams {
+    /// Where the stream under that key is, or how many there are.
+    fn place(&self, key: &[u8]) -> usize {
+        for (at, stream) in self.streams.iter().enumerate() {
             if is(&stream.key, key) {
-                return &stream.entries;
+                return at;
             }
         }
-        &[]
+        self.streams.len()
+    }
+
+    /// The entries under that key; none where there is no stream.
+    pub(crate) fn entries(&self, key: &[u8]) -> &[Entry] {
+        match self.streams.get(self.place(key)) {
+            Some(stream) => &stream.entries,
+            None => &[],
+        }
     }
 
     /// The number of the last entry under that key.
-    pub(crate) fn last(&self, key: &[u8]) -> u64 {
+    fn last(&self, key: &[u8]) -> u64 {
         match self.entries(key).last() {
             Some(entry) => entry.number,
             None => 0,
         }
+    }
+
+    /// A stream under that key, without entries.
+    fn open(&mut self, key: &[u8]) -> Result<(), NoMemory> {
+        let key = Vec::from_slice(self.alloc, key)?;
+        let entries = Vec::new(self.alloc);
+        self.streams.push(Stream { key, entries })?;
+        Ok(())
     }
 
     /// Adds an entry under the key where its number is above the last one. Answers whether it did.
@@ -92,17 +108,14 @@ impl Standing {
         if number <= self.last(key) {
             return Ok(false);
         }
-        let entry = Entry { number, words };
-        for stream in &mut self.streams {
-            if is(&stream.key, key) {
-                stream.entries.push(entry)?;
-                return Ok(true);
-            }
+        let at = self.place(key);
+        if at == self.streams.len() {
+            self.open(key)?;
         }
-        let mut entries = Vec::new(self.alloc);
-        entries.push(entry)?;
-        let key = Vec::from_slice(self.alloc, key)?;
-        self.streams.push(Stream { key, entries })?;
+        match self.streams.get_mut(at) {
+            Some(stream) => stream.entries.push(Entry { number, words })?,
+            None => return Ok(false),
+        }
         Ok(true)
     }
 }

@@ -1,4 +1,4 @@
-//! The words of a command, and what they name.
+//! The words of a command, and what they name. A command is the head of an array, and then its words.
 
 use sj_base::NoMemory;
 use sj_grammar::is;
@@ -6,25 +6,39 @@ use sj_resp::Token;
 use std::alloc::Global;
 use std::collections::VecDeque;
 
-/// The words of a command; those before the first part that is no word.
-pub(crate) fn words_of(alloc: Global, tokens: VecDeque<Token>) -> Result<Vec<Vec<u8>>, NoMemory> {
-    let mut tokens = tokens;
+/// How many words the command has.
+pub(crate) fn word_count(command: &VecDeque<Token>) -> usize {
+    command.len().saturating_sub(1)
+}
+
+/// The word at that place; none of the words is empty.
+pub(crate) fn word(command: &VecDeque<Token>, at: usize) -> &[u8] {
+    match command.get(at.saturating_add(1)) {
+        Some(Token::Bulk(word)) => word,
+        _ => b"",
+    }
+}
+
+/// The words from that place on.
+pub(crate) fn words_from(
+    alloc: Global,
+    command: &VecDeque<Token>,
+    first: usize,
+) -> Result<Vec<Vec<u8>>, NoMemory> {
     let mut words = Vec::new(alloc);
-    let Some(Token::Array(_)) = tokens.pop_front() else {
-        return Ok(words);
-    };
-    while let Some(Token::Bulk(word)) = tokens.pop_front() {
-        words.push(word)?;
+    for at in first..word_count(command) {
+        words.push(Vec::from_slice(alloc, word(command, at))?)?;
     }
     Ok(words)
 }
 
-/// The word at that place; none of the words is empty.
-pub(crate) fn word(words: &[Vec<u8>], at: usize) -> &[u8] {
-    match words.get(at) {
-        Some(word) => word,
-        None => b"",
+/// Those words, as an entry has them.
+pub(crate) fn words_of(alloc: Global, texts: &[&[u8]]) -> Result<Vec<Vec<u8>>, NoMemory> {
+    let mut words = Vec::new(alloc);
+    for text in texts {
+        words.push(Vec::from_slice(alloc, text)?)?;
     }
+    Ok(words)
 }
 
 /// The number with which the word begins: that of the entry `n-0` is n.
@@ -42,10 +56,11 @@ pub(crate) fn number_in(word: &[u8]) -> u64 {
 }
 
 /// Where that word is the first time, or how many words there are.
-pub(crate) fn place_of(words: &[Vec<u8>], wanted: &[u8]) -> usize {
-    let mut at = 0;
-    while at < words.len() && !is(&words[at], wanted) {
-        at += 1;
+pub(crate) fn place_of(command: &VecDeque<Token>, wanted: &[u8]) -> usize {
+    for at in 0..word_count(command) {
+        if is(word(command, at), wanted) {
+            return at;
+        }
     }
-    at
+    word_count(command)
 }
