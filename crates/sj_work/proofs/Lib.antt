@@ -1,3 +1,4 @@
+pub mod AttendLemmas
 pub mod CauseLemmas
 pub mod CountLemmas
 pub mod HaltLemmas
@@ -7,6 +8,7 @@ pub mod LookLemmas
 pub mod NodeLemmas
 pub mod NoteLemmas
 pub mod OnLemmas
+pub mod PieceLemmas
 pub mod PushLemmas
 pub mod RestLemmas
 pub mod SendLemmas
