@@ -18,7 +18,6 @@ use Rattle.sj_work.specs.Worked.{kept_stop}
 use Rattle.sj_work.proofs.CauseLemmas.{cause_later, ins_then, outs_later}
 use Rattle.sj_work.proofs.CountLemmas.{on_later, rose_then, then_rose}
 use Rattle.sj_work.proofs.LaneLaws.{CauseBy, LaneLaws, TurnedBy, WentBy}
-use Rattle.sj_work.proofs.LaneLemmas.{none_is as not_none}
 use Rattle.sj_work.proofs.LookLemmas.{rises_then}
 use Rattle.sj_work.proofs.PieceLemmas.{PieceBy, piece_behind, piece_on, piece_went}
 use Rattle.sj_work.proofs.PushLemmas.{below}
@@ -151,7 +150,7 @@ module _ {O I : Type 0} (k : LaneLaws O I) where
     lost = (t 0).lost;
     went = (t 0).went;
     loses = (t 0).loses;
-    cause = cause_with a b (t 0).lost (stop_of b) (λ is f. absurd (apart (is ∙ refl) ((t 0).finished.1 f))) (t 0).cause;
+    cause = cause_with a b (t 0).lost (stop_of b) (λ is f. apart is ((t 0).finished.1 f)) (t 0).cause;
     pushed = pushed_of a b (t 1).lost (stop_of b) (t 1).cause;
   }
     where

@@ -1,5 +1,5 @@
 -- Pieces of a turn or of a round: each way in which a look ends, and one piece after the other.
-use Rattle.std.proofs.Common.{◌≡◌, ℕ, ◌<◌, max, List, [], ◌∷◌, Bool, true, false, if◌then◌else◌, Option, Some, None, inr, refl, ap, sym, ◌∙◌, subst}
+use Rattle.std.proofs.Common.{◌≡◌, ℕ, ◌<◌, max, List, [], ◌∷◌, Bool, true, if◌then◌else◌, Option, Some, None, inr, refl, ap, sym, ◌∙◌, subst}
 use Rattle.std.specs.Prelude.{IsSome, is_some, slice_get}
 use Rattle.std.proofs.Math.ListN.{set}
 use Rattle.sj_lang.specs.Place.{Place, done}
@@ -77,7 +77,7 @@ frame_before a b from f (Some answers.Fault) c some = absurd c
 
 -- an answer is a stop
 pub stop_there : (a : Option Outcome) (b : Bool) → b ≡ is_some a → b ≡ true → IsSome (stop_in a)
-stop_there None b is answers = absurd (cc)
+stop_there None b is answers = cc
 stop_there (Some x) b is answers = refl
 
 module _ {O I : Type 0} (k : LaneLaws O I) where

@@ -1,45 +1,41 @@
 -- Pieces of a turn: each way in which one ends, and one after the other.
-use Rattle.std.proofs.Common.{rules, ◌≡◌, ℕ, ◌<◌, ◌≤◌, max, List, [], ◌∷◌, if◌then◌else◌, Option, Some, None, Err, inl, inr, refl, ap, sym, ◌∙◌, subst}
+use Rattle.std.proofs.Common.{rules, ◌≡◌, ℕ, ◌≤◌, List, if◌then◌else◌, Option, Some, None, Err, inl, refl, ap, sym, ◌∙◌, subst}
 use Rattle.std.specs.Prelude.{IsSome, slice_get}
 use Rattle.std.proofs.Math.ListN.{set}
-use Rattle.sj_lang.specs.Place.{Place, done}
-use Rattle.sj_table.specs.Spots.{place_in, start_in}
+use Rattle.sj_lang.specs.Place.{Place}
+use Rattle.sj_table.specs.Spots.{start_in}
 use Rattle.sj_end.specs.declared.wire.Frame.{Frame}
-use Rattle.sj_end.specs.Views.{frame_at}
-use Rattle.sj_rules.specs.Frames.{FrameAt, is_proper}
 use Rattle.sj_rules.specs.Limits.{clock_end}
-use Rattle.sj_rules.specs.Mapped.{body_with, frame_with}
-use Rattle.sj_rules.specs.Node.{acts, arrives, comes_or_opens}
+use Rattle.sj_rules.specs.Node.{acts}
 use Rattle.sj_rules.specs.Work.{LostAt}
-use Rattle.sj_joined_lemmas.proofs.LimitLemmas.{same_arrives}
 use Rattle.sj_lane.specs.declared.lane.PushRefusal.{PushRefusal}
 use Rattle.sj_lane.specs.declared.lane.PushRefusal.TheVariants as pushes
-use Rattle.sj_lane.specs.Told.{PushCause, Rose, told_frame, vain_push}
+use Rattle.sj_lane.specs.Told.{PushCause, vain_push}
 use Rattle.sj_node.specs.declared.node.Node.{Node}
 use Rattle.sj_node.specs.declared.refusal.Halt.{Halt}
 use Rattle.sj_node.specs.declared.refusal.Halt.TheVariants as halts
 use Rattle.sj_node.specs.Node as nodes
-use Rattle.sj_node.specs.Node.{Stays, act_of, clock_of, delivery, has_room, node_at}
+use Rattle.sj_node.specs.Node.{Stays, act_of, clock_of, has_room}
 use Rattle.sj_node.specs.Play.{next_want, play_with}
-use Rattle.sj_node.specs.Reading.{IsFinished, parties_of}
+use Rattle.sj_node.specs.Reading.{IsFinished}
 use Rattle.sj_work.specs.declared.worker.Outcome.{Outcome}
 use Rattle.sj_work.specs.declared.worker.Outcome.TheVariants as answers
 use Rattle.sj_work.specs.declared.worker.Stop.{Stop}
 use Rattle.sj_work.specs.declared.worker.Stop.TheVariants as stops
 use Rattle.sj_work.specs.declared.worker.Worker.{Worker}
-use Rattle.sj_work.specs.Answers.{TakesFrame, Delivered, SaysHalt, SeesFinished, push_answer}
+use Rattle.sj_work.specs.Answers.{SaysHalt, SeesFinished, push_answer}
 use Rattle.sj_work.specs.Causes.{Loses}
 use Rattle.sj_work.specs.Counts.{RoseBy, SomeRose}
 use Rattle.sj_work.specs.Turns.{IsGoing}
-use Rattle.sj_work.specs.Views.{in_of, line_in, stop_at, out_of, stop_in, stop_of}
+use Rattle.sj_work.specs.Views.{line_in, out_of, stop_in, stop_of}
 use Rattle.sj_work.specs.Worked.{Worked, WorkedBy, kept_stop}
 use Rattle.sj_work.proofs.CauseLemmas.{cause_later}
 use Rattle.sj_work.proofs.CountLemmas.{rose_raised, some_rose}
 use Rattle.sj_work.proofs.HaltLemmas.{Refused, finished_before}
-use Rattle.sj_work.proofs.LaneLaws.{CauseBy, InDid, LaneLaws, TurnedBy, WentBy}
-use Rattle.sj_work.proofs.LaneLemmas.{told_with, none_is as not_none}
-use Rattle.sj_work.proofs.NodeLemmas.{arrives_so, came_stepped, stays_quiet}
-use Rattle.sj_work.proofs.WentLemmas.{went_again, went_came, went_itself, went_later, went_lost, went_still}
+use Rattle.sj_work.proofs.LaneLaws.{CauseBy, LaneLaws, TurnedBy, WentBy}
+use Rattle.sj_work.proofs.LaneLemmas.{none_is as not_none}
+use Rattle.sj_work.proofs.NodeLemmas.{stays_quiet}
+use Rattle.sj_work.proofs.WentLemmas.{went_again, went_itself, went_later, went_still}
 
 -- nodes alike act alike
 act_same : (a b : Node) → Stays a b → act_of b ≡ act_of a

@@ -42,7 +42,7 @@ fn take_from<O: OutLane, I: InLane, G: Gate>(worker: &mut Worker<O, I>, from: u1
 
 // Takes from each party of the file, in order.
 fn take_all<O: OutLane, I: InLane, G: Gate>(worker: &mut Worker<O, I>, gate: &G)
-    requires stop { stop_of worker.old ≡ None }
+    requires { stop_of worker.old ≡ None }
     ensures pieces { Pieces O.OutLane I.InLane worker.old worker.new }
     ensures other { stop_of worker.new ≡ Some Stop.Finished → ⊥ }
     ensures vain { stop_of worker.new ≡ None →
@@ -60,7 +60,7 @@ fn take_all<O: OutLane, I: InLane, G: Gate>(worker: &mut Worker<O, I>, gate: &G)
 // Pushes what waits, and stops: as finished where the node is so, else as idle, unless a lane
 // refused.
 fn push_on<O: OutLane, I: InLane>(worker: &mut Worker<O, I>)
-    requires stop { stop_of worker.old ≡ None }
+    requires { stop_of worker.old ≡ None }
     ensures attended { Attended O.OutLane I.InLane worker.old worker.new }
     ensures rests { HasNoEvent (node_of worker.old) (node_of worker.new) }
     ensures stops { stop_of worker.new ≡ None → ⊥ }
@@ -78,7 +78,7 @@ fn push_on<O: OutLane, I: InLane>(worker: &mut Worker<O, I>)
 
 // One round of a worker that hasn't stopped.
 fn round<O: OutLane, I: InLane, G: Gate>(worker: &mut Worker<O, I>, gate: &G)
-    requires stop { stop_of worker.old ≡ None }
+    requires { stop_of worker.old ≡ None }
     ensures attended { Attended O.OutLane I.InLane worker.old worker.new }
     ensures looked { MayGoOn (stop_of worker.new) →
         clock_of (node_of worker.new) ≡ clock_of (node_of worker.old) →

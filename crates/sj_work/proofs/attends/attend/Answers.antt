@@ -1,4 +1,4 @@
-use Rattle.std.proofs.Common.{◌≡◌, None, Option, refl, ap, sym, ◌∙◌, subst}
+use Rattle.std.proofs.Common.{None, Option, refl, ap, sym, ◌∙◌, subst}
 use Rattle.sj_work.specs.declared.worker.Stop.{Stop}
 use Rattle.sj_work.specs.Attended.{MayGoOn}
 use Rattle.sj_work.specs.Worked.{kept_stop}

@@ -1,6 +1,5 @@
 use Rattle.std.proofs.Common.{None, Some, refl}
 use Rattle.sj_work.specs.declared.worker.Outcome.TheVariants as answers
-use Rattle.sj_work.specs.Turns.{IsGoing}
 use Rattle.sj_work.proofs.AttendLemmas.{attended_idle, attended_turned}
 use Rattle.sj_work.proofs.LaneLaws.{laws}
 use Rattle.sj_work.proofs.RestLemmas.{rests_itself}

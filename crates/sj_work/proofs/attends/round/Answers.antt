@@ -1,4 +1,3 @@
-use Rattle.std.proofs.Common.{None}
 use Rattle.sj_work.proofs.AttendLemmas.{attended_behind, attended_piece, looked_round, piece_over}
 use Rattle.sj_work.proofs.LaneLaws.{laws}
 use Rattle.sj_work.proofs.PieceLemmas.{piece_went}
