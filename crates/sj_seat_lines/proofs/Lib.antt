@@ -1,0 +1,10 @@
+mod FormLemmas
+mod NameLemmas
+mod NumberLemmas
+mod OpenLemmas
+mod RefusedLemmas
+mod ReplyLemmas
+mod RuleLemmas
+mod SendLemmas
+mod TakeLemmas
+mod WordLemmas

@@ -1,0 +1,9 @@
+pub mod Forms
+pub mod Heard
+pub mod Names
+pub mod Opens
+pub mod Party
+pub mod Replies
+pub mod Rules
+pub mod Settled
+pub mod Steps
