@@ -79,7 +79,10 @@ pub fn request_of(
     ensures { result ≡ request_of (file_of file.now) (named names.now) (may_of seat.entry)
         name.now protocol.now party.now }
 {
-    match (label_number(&file.names.words, protocol), party_of_word(file, party)) {
+    match (
+        label_number(&file.names.words, protocol),
+        party_of_word(file, party),
+    ) {
         (Some(protocol), Some(party)) => {
             open_of(names, seat, name, OpenWish::Request { party, protocol })
         }
@@ -99,7 +102,10 @@ pub fn accept_of(
     ensures { result ≡ accept_of (file_of file.now) (named names.now) (may_of seat.entry)
         name.now protocol.now party.now }
 {
-    match (label_number(&file.names.words, protocol), party_of_word(file, party)) {
+    match (
+        label_number(&file.names.words, protocol),
+        party_of_word(file, party),
+    ) {
         (Some(protocol), Some(party)) => {
             open_of(names, seat, name, OpenWish::Accept { party, protocol })
         }

@@ -74,12 +74,7 @@ impl Party<'_> {
         }
     }
 
-    fn opened(
-        &mut self,
-        name: &[u8],
-        end: EndId,
-        text: &mut Vec<u8>,
-    ) -> Result<Heard, NoMemory>
+    fn opened(&mut self, name: &[u8], end: EndId, text: &mut Vec<u8>) -> Result<Heard, NoMemory>
         ensures { IfOk result (λ h. came h text.new.items (party_at self.new)
             ≡ opened_so (party_at self.old) text.old.items name.now end) }
     {
