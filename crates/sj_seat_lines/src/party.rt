@@ -1,11 +1,11 @@
 //! A party that is played by lines: what each line asks of it, and what is answered.
-ghost use Rattle.std.specs.Prelude.{◌≡◌, ◌++◌, IfOk, OnOk, Some, map, option_and_then, option_map};
+ghost use Rattle.std.specs.Prelude.{◌≡◌, ◌++◌, IfOk, OnOk, map, option_and_then, option_map};
 ghost use Rattle.sj_lang.specs.FileView.{file_of};
 ghost use Rattle.sj_seat.specs.Holding.{ends_at};
 ghost use Rattle.sj_seat_laws.specs.Calls.{place_held};
 ghost use Rattle.sj_seat_lines.specs.Forms as forms;
 ghost use Rattle.sj_seat_lines.specs.Forms.{form_of};
-ghost use Rattle.sj_seat_lines.specs.Heard.{after_spaces, ahead_line, came, heard_of, name_for, of_any_names, of_end_ahead, of_ends, of_opens, says};
+ghost use Rattle.sj_seat_lines.specs.Heard.{after_spaces, ahead_line, came, heard_of, name_for, of_any_names, of_end_ahead, of_ends, of_form, of_opens, of_talk, says};
 ghost use Rattle.sj_seat_lines.specs.Names.{name_in, named};
 ghost use Rattle.sj_seat_lines.specs.Party.{ask_at, asked_of, counted, party_at, pending_as, seat_at, starts_as, waits_for};
 ghost use Rattle.sj_seat_lines.specs.Replies.{reply_at};
@@ -99,7 +99,7 @@ impl<'a> Party<'a> {
     {
         self.number = self.number.saturating_add(1);
         self.pending = None;
-        self.hear_form(seat, form_in(line), text)
+        self.hear_said(seat, form_in(line), text)
     }
 
     /// The call that the line asks for which waits.
@@ -112,7 +112,7 @@ impl<'a> Party<'a> {
         }
     }
 
-    fn hear_form(
+    fn hear_said(
         &mut self,
         seat: Guard<'_>,
         form: Option<Form<'_>>,
@@ -122,23 +122,37 @@ impl<'a> Party<'a> {
             (party_at self.old) (seat_at seat.entry) text.old.items (option_map forms.form_at form.entry)) }
     {
         match form {
-            Some(Form::Talk(form)) => self.hear_talk(seat, form, text),
-            Some(Form::Request(name, protocol, party)) => {
+            Some(form) => self.hear_form(seat, form, text),
+            None => self.say(text, Reply::Refused(NO_FORM)),
+        }
+    }
+
+    fn hear_form(
+        &mut self,
+        seat: Guard<'_>,
+        form: Form<'_>,
+        text: &mut Vec<u8>,
+    ) -> Result<Heard, NoMemory>
+        ensures { IfOk result (λ h. came h text.new.items (party_at self.new) ≡ of_form
+            (party_at self.old) (seat_at seat.entry) text.old.items (forms.form_at form.entry)) }
+    {
+        match form {
+            Form::Talk(form) => self.hear_talk(seat, form, text),
+            Form::Request(name, protocol, party) => {
                 let opens = request_of(self.file, &self.names, seat, name, protocol, party);
                 self.hear_opens(name, opens, text)
             }
-            Some(Form::Accept(name, protocol, party)) => {
+            Form::Accept(name, protocol, party) => {
                 let opens = accept_of(self.file, &self.names, seat, name, protocol, party);
                 self.hear_opens(name, opens, text)
             }
-            Some(Form::TakeAny(names)) => self.hear_any(names, text),
-            Some(Form::Ahead(name)) => self.hear_ahead(seat, name, text),
-            Some(Form::Ends) => self.hear_ends(seat, text),
-            Some(Form::Leave) => {
+            Form::TakeAny(names) => self.hear_any(names, text),
+            Form::Ahead(name) => self.hear_ahead(seat, name, text),
+            Form::Ends => self.hear_ends(seat, text),
+            Form::Leave => {
                 self.say(text, Reply::Fine)?;
                 Ok(Heard::Left)
             }
-            None => self.say(text, Reply::Refused(NO_FORM)),
         }
     }
 
@@ -166,8 +180,8 @@ impl<'a> Party<'a> {
         form: sj_talk::Form<'_>,
         text: &mut Vec<u8>,
     ) -> Result<Heard, NoMemory>
-        ensures { IfOk result (λ h. came h text.new.items (party_at self.new) ≡ heard_of
-            (party_at self.old) (seat_at seat.entry) text.old.items (Some (forms.talk (plays.form_at form.entry)))) }
+        ensures { IfOk result (λ h. came h text.new.items (party_at self.new) ≡ of_talk
+            (party_at self.old) (seat_at seat.entry) text.old.items (plays.form_at form.entry)) }
     {
         let name = name_for(self.alloc, form)?;
         match step_of(self.file, &mut self.texts, &self.names, seat, form)? {
