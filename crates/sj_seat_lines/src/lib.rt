@@ -22,3 +22,6 @@ pub use replies::{Reply, put_reply};
 pub use starts::first_names;
 pub use steps::{Step, step_of};
 pub use words::Words;
+
+#[cfg(test)]
+mod tests;
