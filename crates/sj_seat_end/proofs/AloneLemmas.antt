@@ -6,6 +6,14 @@ use Rattle.sj_lang.specs.FileAt.{FileAt}
 use Rattle.sj_seat_run.specs.Seats.{seats_by}
 use Rattle.sj_seat_end.specs.Alone.{AreAlone, AreNobodys, is_party}
 
+-- where there are none at all
+none_of : {C : Type 0} (codes : List (Option C)) → codes ≡ [] → (q : ℕ) → seats_by codes q ≡ false
+none_of codes none zero = ap (λ cs. seats_by cs zero) none
+none_of codes none (suc q) = ap (λ cs. seats_by cs (suc q)) none
+
+pub no_nobodys : {C : Type 0} (codes : List (Option C)) → codes ≡ [] → AreNobodys 0 codes
+no_nobodys codes none = record { count = ap length none; none = none_of codes none }
+
 -- one more without a code
 none_more : {C : Type 0} (codes : List (Option C)) → ((q : ℕ) → seats_by codes q ≡ false) → (q : ℕ) → seats_by (codes ++ None ∷ []) q ≡ false
 none_more [] none zero = refl
