@@ -34,9 +34,10 @@ pub(crate) fn told_of(
         Ok(()) => {}
         Err(refusal) => return Err(refusal),
     }
-    let verdict = match stands(alloc, world) {
-        Ok(stands) => verdict(&stands),
+    let stands = match stands(alloc, world) {
+        Ok(stands) => stands,
         Err(NoMemory) => return Err(TranscriptRefusal::NoMemory),
     };
+    let verdict = verdict(&stands);
     Ok(Told { verdict, text })
 }

@@ -4,19 +4,19 @@ use Rattle.sj_seat_end.proofs.ending.run_to_end.Goals as goal
 
 pub told_of-requires-clause-quiet : goal.told_of-requires-clause-quiet
 told_of-requires-clause-quiet g c =
-    drained_quiet (file_in c.args.accepted.now) c.file.result.now c.in-Ok.run.world c.drain.new.world c.file.ensures.value c.file.ensures.accepted
+    drained_quiet (file_in c.args.accepted.now) c.file.result.now c.in-Ok.run.world c.drain.new.self c.file.ensures.value c.file.ensures.accepted
     c.in-Ok.ensures.kept c.drain.ensures.kept c.drain.ensures.parties c.drain.ensures.run c.in-Ok-drain.ensures.quiet
 
 pub returns-clause-told : goal.returns-clause-told
 returns-clause-told g c =
-    end_told (file_in c.args.accepted.now) c.file.result.now c.in-Ok.run.world c.drain.new.world c.args.codes.items c.in-Ok.run.codes.items c.file.ensures.value
-    (drained_quiet (file_in c.args.accepted.now) c.file.result.now c.in-Ok.run.world c.drain.new.world c.file.ensures.value c.file.ensures.accepted
+    end_told (file_in c.args.accepted.now) c.file.result.now c.in-Ok.run.world c.drain.new.self c.args.codes.items c.in-Ok.run.codes.items c.file.ensures.value
+    (drained_quiet (file_in c.args.accepted.now) c.file.result.now c.in-Ok.run.world c.drain.new.self c.file.ensures.value c.file.ensures.accepted
     c.in-Ok.ensures.kept c.drain.ensures.kept c.drain.ensures.parties c.drain.ensures.run c.in-Ok-drain.ensures.quiet)
-    c.drain.ensures.seats c.in-Ok.ensures.seats c.in-Ok.ensures.codes c.told_of.result c.told_of.ensures.told
+    c.drain.ensures.seats c.in-Ok.ensures.seats c.in-Ok.ensures.codes c.told_of-told.result c.told_of-told.ensures.told
 
 pub returns-clause-untold : goal.returns-clause-untold
 returns-clause-untold g c =
-    end_untold (file_in c.args.accepted.now) c.file.result.now c.in-Ok.run.world c.drain.new.world c.args.codes.items c.in-Ok.run.codes.items c.file.ensures.value
-    (drained_quiet (file_in c.args.accepted.now) c.file.result.now c.in-Ok.run.world c.drain.new.world c.file.ensures.value c.file.ensures.accepted
+    end_untold (file_in c.args.accepted.now) c.file.result.now c.in-Ok.run.world c.drain.new.self c.args.codes.items c.in-Ok.run.codes.items c.file.ensures.value
+    (drained_quiet (file_in c.args.accepted.now) c.file.result.now c.in-Ok.run.world c.drain.new.self c.file.ensures.value c.file.ensures.accepted
     c.in-Ok.ensures.kept c.drain.ensures.kept c.drain.ensures.parties c.drain.ensures.run c.in-Ok-drain.ensures.quiet)
-    c.drain.ensures.seats c.in-Ok.ensures.seats c.in-Ok.ensures.codes c.told_of.result c.told_of.ensures.opened.0
+    c.drain.ensures.seats c.in-Ok.ensures.seats c.in-Ok.ensures.codes c.told_of-told.result c.told_of-told.ensures.opened.0
