@@ -2,10 +2,11 @@ use Rattle.sj_check.specs.Held.{file_in}
 use Rattle.sj_seat_end.proofs.EndLemmas.{drained_quiet, end_told, end_untold}
 use Rattle.sj_seat_end.proofs.ending.run_to_end.Goals as goal
 
-pub told_of-requires-clause-quiet : goal.told_of-requires-clause-quiet
-told_of-requires-clause-quiet g c =
-    drained_quiet (file_in c.args.accepted.now) c.file.result.now c.in-Ok.run.world c.drain.new.self c.file.ensures.value c.file.ensures.accepted
-    c.in-Ok.ensures.kept c.drain.ensures.kept c.drain.ensures.parties c.drain.ensures.run c.in-Ok-drain.ensures.quiet
+pub told_of-requires : goal.told_of-requires
+told_of-requires g c = record {
+  quiet = drained_quiet (file_in c.args.accepted.now) c.file.result.now c.in-Ok.run.world c.drain.new.self c.file.ensures.value c.file.ensures.accepted
+      c.in-Ok.ensures.kept c.drain.ensures.kept c.drain.ensures.parties c.drain.ensures.run c.in-Ok-drain.ensures.quiet;
+}
 
 pub returns-clause-told : goal.returns-clause-told
 returns-clause-told g c =
