@@ -1,8 +1,9 @@
 //! What answers tell, and what a talk must say of them.
 
+use crate::deed::Deed;
 use crate::wild::Asked;
 use sj_base::{EndId, Msg};
-use sj_seat::SeatRefusal;
+use sj_seat::{SeatRefusal, Wish};
 use sj_seat_run::Outcome;
 use sj_talk::Said;
 
@@ -15,6 +16,18 @@ pub(crate) fn end_in(asked: Asked) -> Option<EndId> {
                 ..
             },
         ) => Some(EndId { sess, side }),
+        _ => None,
+    }
+}
+
+/// The end that the call closed or delegated.
+pub(crate) fn end_gone(asked: Asked) -> Option<EndId> {
+    if asked.answer.is_err() {
+        return None;
+    }
+    match asked.deed {
+        Deed::Step(Wish::Delegate { end, .. }) => Some(end),
+        Deed::Step(Wish::Close { end }) => Some(end),
         _ => None,
     }
 }

@@ -2,7 +2,7 @@
 
 use crate::deed::Deed;
 use crate::ends::is_first_holder;
-use crate::said::end_in;
+use crate::said::{end_gone, end_in};
 use crate::wild::Asked;
 use sj_base::{EndId, Msg, NoMemory};
 use sj_lang::File;
@@ -135,14 +135,15 @@ impl<'a> Speaker<'a> {
         if let Some(end) = end_in(asked) {
             self.came.push(end)?;
         }
-        if let (Deed::Step(Wish::Delegate { end, .. }), Ok(_)) = (asked.deed, asked.answer) {
-            self.came.retain(|other| *other != end);
-        }
-        if let (Deed::Step(Wish::Close { end }), Ok(_)) = (asked.deed, asked.answer) {
-            self.came.retain(|other| *other != end);
+        if let Some(end) = end_gone(asked) {
+            forget(&mut self.came, end);
         }
         Ok(())
     }
+}
+
+fn forget(ends: &mut Vec<EndId>, end: EndId) {
+    ends.retain(|other| *other != end);
 }
 
 // The name of an end that came.
