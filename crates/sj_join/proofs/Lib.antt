@@ -2,3 +2,4 @@ pub mod RangeLemmas
 pub mod JoinLemmas
 pub mod CauseLemmas
 pub mod FindingLemmas
+pub mod NowLemmas
