@@ -1,5 +1,5 @@
 -- Where the parties of a world are, one after another.
-use Rattle.std.proofs.Common.{◌≡◌, ◌∙◌, ◌<◌, ◌≤◌, ◌+◌, ◌-◌, ◌||◌, ℕ, zero, suc, Bool, true, false, List, [], ◌∷◌, ◌++◌, Option, Some, ap, append-nil, append_assoc, arith, codes, decimal, drop, get_or, length, length-append, map, option_map, refl, sym, take}
+use Rattle.std.proofs.Common.{◌≡◌, ◌∙◌, ◌<◌, ◌≤◌, ◌+◌, ◌-◌, ◌||◌, ℕ, zero, suc, Bool, true, false, List, [], ◌∷◌, ◌++◌, Option, Some, ap, append-nil, append_assoc, arith, codes, decimal, drop, get_or, length, length-append, map, option_map, refl, subst, sym, take, take_all}
 use Rattle.std.proofs.Math.ListN.{drop_of_length-le}
 use Rattle.std.proofs.lemmas.List.{map_more}
 use Rattle.std.specs.List.{list_any}
@@ -7,22 +7,28 @@ use Rattle.std.specs.Prelude.{slice_get}
 use Rattle.sj_end.specs.Lines.{event_at, line_at}
 use Rattle.sj_end.specs.declared.note.Line.{Line}
 use Rattle.sj_lang.specs.FileAt.{FileAt, PartyAt}
-use Rattle.sj_lang.specs.FileView.{party_of}
+use Rattle.sj_lang.specs.FileView.{file_of, party_of}
+use Rattle.sj_lang.specs.declared.file.File.{File}
 use Rattle.sj_lang.specs.declared.file.Party.{Party}
+use Rattle.sj_plain.specs.Kept.{without_words}
+use Rattle.sj_plain.specs.Plain.{acts_of, kept_file, world_at}
+use Rattle.sj_plain.specs.declared.plain.Plain.{Plain}
 use Rattle.sj_print.proofs.PartLemmas.{get_map, open_at, party_step}
 use Rattle.sj_print.specs.Parts.{party_part}
 use Rattle.sj_rules.specs.Events.{acts_by}
 use Rattle.sj_rules.specs.Log.{LineAt}
 use Rattle.sj_semantics.specs.Lines.{name_if, name_of, word_at}
 use Rattle.sj_semantics.specs.Program.{Program}
+use Rattle.sj_semantics.specs.Run.{IsRun}
 use Rattle.sj_semantics.specs.State.{state_if, state_of_program, states_from}
 use Rattle.sj_semantics.specs.Transcript.{party_lines}
 use Rattle.sj_semantics.specs.World.{World}
 use Rattle.sj_semantics.specs.declared.Limit.TheVariants as limits
 use Rattle.sj_semantics.specs.declared.State.{State}
 use Rattle.sj_semantics.specs.declared.State.TheVariants as states
-use Rattle.sj_join.specs.Now.{actors, is_ready, place_lines}
+use Rattle.sj_join.specs.Now.{IsNow, actors, ending_of, is_ready, now_text, place_lines}
 use Rattle.sj_join.specs.Places.{place_line, told_line}
+use Rattle.sj_join.specs.declared.now.Now.{Now}
 
 -- what is there at that index
 record Here {X : Type 0} (xs : List X) (i : ℕ) : Type 0 where
@@ -121,12 +127,32 @@ actors_both [] ys = refl
 actors_both (x ∷ xs) ys = ap (λ (t : List ℕ). acts_by x.entry.event x.party ++ t) (actors_both xs ys) ∙ sym (append_assoc (acts_by x.entry.event x.party) (actors xs) (actors ys))
 
 -- one line of a log more
-pub actors_more : (lines : List Line) (i : ℕ) (l : Line) → i < length lines → l ≡ get_or lines i l
-    → actors (map line_at (take (i + 1) lines)) ≡ actors (map line_at (take i lines)) ++ acts_by (event_at l.entry.event) l.party
-actors_more lines i l less is =
+actors_more : (lines : List Line) (i : ℕ) (l : Line) → i < length lines
+    → actors (map line_at (take (i + 1) lines)) ≡ actors (map line_at (take i lines)) ++ acts_by (event_at (get_or lines i l).entry.event) (get_or lines i l).party
+actors_more lines i l less =
     ap actors (map_more line_at lines i l less) ∙ actors_both (map line_at (take i lines)) (line_at (get_or lines i l) ∷ [])
-    ∙ ap (λ (x : Line). actors (map line_at (take i lines)) ++ (acts_by (event_at x.entry.event) x.party ++ [])) (sym is)
-    ∙ ap (λ (t : List ℕ). actors (map line_at (take i lines)) ++ t) (append-nil (acts_by (event_at l.entry.event) l.party))
+    ∙ ap (λ (t : List ℕ). actors (map line_at (take i lines)) ++ t) (append-nil (acts_by (event_at (get_or lines i l).entry.event) (get_or lines i l).party))
+
+-- its act is done after those before it
+pub acts_next : (lines : List Line) (i : ℕ) (l : Line) → i < length lines → (old new : List ℕ) → old ≡ actors (map line_at (take i lines))
+    → new ≡ old ++ acts_by (event_at (get_or lines i l).entry.event) (get_or lines i l).party → new ≡ actors (map line_at (take (i + 1) lines))
+acts_next lines i l less old new before put =
+    put ∙ ap (λ (t : List ℕ). t ++ acts_by (event_at (get_or lines i l).entry.event) (get_or lines i l).party) before ∙ sym (actors_more lines i l less)
+
+-- and after the last line all are done
+pub acts_all : (lines : List Line) (i : ℕ) → length lines ≤ i → (acts : List ℕ) → acts ≡ actors (map line_at (take i lines)) → acts ≡ actors (map line_at lines)
+acts_all lines i le acts done = done ∙ ap (λ (ls : List Line). actors (map line_at ls)) (take_all i lines le)
+
+-- what is said of the world to which the acts lead
+pub is_now : (file kept : File) (lines : List LineAt) (p : Plain) (now : Now) → file ≡ kept → kept_file p ≡ without_words (file_of kept)
+    → IsRun (kept_file p) (acts_of p) (world_at p) → acts_of p ≡ actors lines → now.verdict ≡ ending_of (world_at p) → now.text.items ≡ now_text (file_of file) (world_at p)
+    → IsNow (file_of kept) lines now
+is_now file kept lines p now same kept_is run acts verdict text = record {
+  world = world_at p;
+  led = subst (λ (f : FileAt). IsRun f (actors lines) (world_at p)) kept_is (subst (λ (as : List ℕ). IsRun (kept_file p) as (world_at p)) acts run);
+  verdict = verdict;
+  text = text ∙ ap (λ (f : File). now_text (file_of f) (world_at p)) same;
+}
 
 -- the last lines of a transcript
 pub last_is : (parties verdict none some all : List ℕ) → none ≡ [] → some ≡ none ++ parties → all ≡ some ++ verdict → all ≡ parties ++ verdict

@@ -1,5 +1,5 @@
 //! What a run did so far, and where its parties are.
-ghost use Rattle.std.specs.Prelude.{◌≡◌, ◌≤◌, ◌++◌, IfOk, IfSome, IsTrue, List, OnOk, length, map, ℕ};
+ghost use Rattle.std.specs.Prelude.{◌≡◌, ◌≤◌, ◌++◌, IfOk, IfSome, List, OnOk, length, map, true, ℕ};
 ghost use Rattle.std.specs.List.{list_any};
 ghost use Rattle.sj_check.specs.Held.{file_in as held};
 ghost use Rattle.sj_core.specs.Views.{event_at, line_at};
@@ -37,7 +37,7 @@ fn act_again(plain: &mut Plain, line: &Line) -> Result<bool, NoMemory>
     requires run { IsRun (kept_file plain.old) (acts_of plain.old) (world_at plain.old) }
     ensures kept { kept_file plain.new ≡ kept_file plain.old }
     ensures run { IsRun (kept_file plain.new) (acts_of plain.new) (world_at plain.new) }
-    ensures acts { IfOk result (λ done. IsTrue done → acts_of plain.new
+    ensures acts { IfOk result (λ done. done ≡ true → acts_of plain.new
         ≡ acts_of plain.old ++ acts_by (event_at line.now.entry.event) line.now.party) }
 {
     match line.entry.event {
