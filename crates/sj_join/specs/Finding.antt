@@ -1,12 +1,12 @@
 -- A run as it is found, or why it isn't.
-use Rattle.std.specs.Prelude.{◌≡◌, ◌<◌, ℕ, true, List, length, map, Option, Some, None, Vec}
+use Rattle.std.specs.Prelude.{◌≡◌, ◌<◌, ℕ, ⊤, true, List, length, map, Option, Some, None, Vec}
 use Rattle.std.specs.declared.alloc.Global.{Global}
 use Rattle.sj_core.specs.Views.{line_at}
 use Rattle.sj_end.specs.declared.note.Line.{Line}
 use Rattle.sj_grammar.specs.Files.{IsFile}
 use Rattle.sj_lang.specs.FileAt.{FileAt}
 use Rattle.sj_lang.specs.FileView.{file_of}
-use Rattle.sj_lang.specs.Limits.{file_limit}
+use Rattle.sj_lang.specs.Limits.{IsWithin, file_limit, limits}
 use Rattle.sj_lang.specs.declared.file.File.{File}
 use Rattle.sj_remote.specs.declared.conn.Conn.{Conn}
 use Rattle.sj_streams.specs.Reading.{CameAt}
@@ -58,3 +58,11 @@ module _ {S K : Type 0} (left : S → Option (List ℕ)) where
       NoText : IsUnanswered left faults has_ended unwritten old new IsNoText e → IsNotFound old new run e
       TooLarge : (text : List ℕ) → IsAnswered left old new (Gives text) → file_limit < length text → e ≡ joins.TooLarge → IsNotFound old new run e
       NoRun : (between : Conn S K) (text : List ℕ) (file : FileAt) → IsGiven old between text file → IsNotRead between new run file (length file.parties) e → IsNotFound old new run e
+
+-- the file that is found, if one is, is within the limits of files
+abbrev pub IsWithinIf : Option (File × Vec Line Global) → Type 0
+IsWithinIf (Some found) = IsWithin limits (file_of found.0)
+IsWithinIf None = ⊤
+
+abbrev pub IsFoundWithin : Found → Type 0
+IsFoundWithin f = IsWithinIf f.run

@@ -4,7 +4,7 @@ ghost use Rattle.sj_end.specs.Lines.{line_at};
 ghost use Rattle.sj_lang.specs.FileView.{file_of};
 ghost use Rattle.sj_lang.specs.Limits.{limits};
 ghost use Rattle.sj_print.specs.LogLine.{log_text};
-ghost use Rattle.sj_join.specs.Finding.{IsFound, IsNotFound, IsNotRead, IsReadRun};
+ghost use Rattle.sj_join.specs.Finding.{IsFound, IsFoundWithin, IsNotFound, IsNotRead, IsReadRun};
 ghost use Rattle.sj_join.specs.Sources.{source_text};
 
 use crate::JoinRefusal;
@@ -93,6 +93,7 @@ pub fn find<S: Source, K: Sink>(
     run: &[u8],
 ) -> Result<Found, JoinRefusal>
     ensures found { IfOk result (IsFound S.left conn.old conn.new run.now) }
+    ensures within { IfOk result IsFoundWithin }
     ensures refused { IfErr result
         (IsNotFound S.left S.faults S.has_ended K.faults conn.old conn.new run.now) }
 {
