@@ -1,28 +1,25 @@
 //! `sjjoin`: prints what the parties of a run at a stream server did, joined.
 #![tactic(auto)]
 
+ghost use Rattle.sj_join.specs.Finding.{IsFoundWithin};
+
 use sj_base::{MemSource, NoMemory, ReadSource, WriteSink, write_all_of};
-use sj_check::{Accepted, check};
+use sj_check::check;
 use sj_join::{
     Asked, Found, JoinRefusal, Task, asked_in, drop_run, find, now_in, put_source, sign_in,
 };
 use sj_lane::RingLinks;
-use sj_party::parse_file;
 use sj_remote::{Conn, TalkRefusal};
 use sj_semantics::Verdict;
 use sj_streams::Refusal;
 use sj_text::{put, put_number};
 use sj_tool::sj;
 use sj_work::NoGate;
-use std::alloc::Global;
 use std::env;
 use std::io::{ErrorKind, Read, Write};
 use std::net::{OpenStream, TcpStream};
 use std::process::ExitCode;
 use std::time::Duration;
-
-/// The most bytes of a file.
-const FILE_BYTES: usize = 65_536;
 
 /// So long a server may take for an answer.
 const PATIENCE: u64 = 30;
@@ -163,32 +160,22 @@ fn replay_of(found: Found, log: bool) -> Result<Answer, NoMemory> {
 }
 
 // What the run did so far. Where its file or its log is refused, the replay says why.
-fn now_of(rt: &HostRuntime, found: Found) -> Result<Answer, NoMemory> {
+fn now_of(rt: &HostRuntime, found: Found) -> Result<Answer, NoMemory>
+    requires { IsFoundWithin found }
+{
     let Found { text, run } = found;
     let Some((file, lines)) = run else {
         return replay_of(Found { text, run: None }, false);
     };
-    let accepted = accepted_in(rt.alloc(), &text);
     let mut source = text;
     put_source(&mut source, &file, &lines)?;
-    let Some(accepted) = accepted else {
+    let Ok(accepted) = check(rt.alloc(), file) else {
         return Ok(Answer::Replay { source, log: false });
     };
     match now_in(rt.alloc(), &accepted, lines)? {
         Some(now) => Ok(Answer::Said(status_of(now.verdict), now.text)),
         None => Ok(Answer::Replay { source, log: false }),
     }
-}
-
-// The accepted file whose text that is, if it is one. The replay says why it isn't.
-fn accepted_in(alloc: Global, text: &[u8]) -> Option<Accepted> {
-    if text.len() > FILE_BYTES {
-        return None;
-    }
-    let Ok(file) = parse_file(alloc, text) else {
-        return None;
-    };
-    check(alloc, file).ok()
 }
 
 fn status_of(verdict: Option<Verdict>) -> u8 {
