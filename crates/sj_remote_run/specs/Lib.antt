@@ -1,5 +1,6 @@
 pub mod Again
 pub mod Causes
+pub mod Refused
 pub mod Entries
 pub mod Turns
 pub mod Batches

@@ -2,6 +2,7 @@
 ghost use Rattle.std.specs.Prelude.{◌≡◌};
 ghost use Rattle.sj_remote_run.specs.Causes.{conn_means as conn_cause};
 ghost use Rattle.sj_remote_run.specs.Causes.{misread_means as misread_cause};
+ghost use Rattle.sj_remote_run.specs.Causes.{password_means as password_cause};
 ghost use Rattle.sj_remote_run.specs.Causes.{refusal_means as refusal_cause};
 ghost use Rattle.sj_remote_run.specs.Causes.{spell_means as spell_cause, talk_means as talk_cause};
 
@@ -19,6 +20,16 @@ pub(crate) fn refusal_means(refusal: Refusal) -> PlayRefusal
         Refusal::Password => PlayRefusal::Password,
         Refusal::Away => PlayRefusal::NoServer,
         Refusal::Full | Refusal::Other => PlayRefusal::Server,
+    }
+}
+
+/// What a server's refusal means that comes to a password.
+pub(crate) fn password_means(refusal: Refusal) -> PlayRefusal
+    ensures { result ≡ password_cause refusal }
+{
+    match refusal {
+        Refusal::Away => PlayRefusal::NoServer,
+        _ => PlayRefusal::Password,
     }
 }
 

@@ -37,7 +37,7 @@ returns g c =
     let held : vec_len all ≡ length all.items = omega (arith, all.ok) in
     let count : c.len-parties.result ≡ length file.parties = c.len-parties.ensures ∙ held ∙ sym (length-map c.file-2.result.now.parties.items party_at) ∙ ap (λ f. length (file_of f).parties) c.file-2.ensures.value in
     let keys_are : keys ≡ log_keys run (length file.parties) = ap words_at c.in_ok-node.ensures.keys ∙ c.in_ok-streams.ensures.keys ∙ ap (log_keys run) count in
-    let shares = c.in_ok-share.ensures ∙ ap (λ f. put_behind (written (sink_of c.sign_in.new.conn)) (command_text (share_words run (file_text (file_of f))) ++ command_text (get_words run))) c.file.ensures.value in
+    let shares = c.in_ok-share.ensures.sent ∙ ap (λ f. put_behind (written (sink_of c.sign_in.new.conn)) (command_text (share_words run (file_text (file_of f))) ++ command_text (get_words run))) c.file.ensures.value in
     let reads = c.in_ok-node.ensures.sent in
     let asks = reads.1 ∙ ap (λ ks. put_behind (written (sink_of c.share.new.conn)) (reads_text (words_at ks) reads.0)) (sym c.in_ok-node.ensures.keys) in
     record {
@@ -48,5 +48,5 @@ returns g c =
           (written (sink_of c.args.conn.now)) (written (sink_of c.go_on.new.conn)) keys_are named (ap (λ p. get_or seen p 0) named ∙ again.1)
           (goes_whole file run keys (party_of node) (get_or seen (party_of node) 0) node c.in_ok-outcome.outcome _ _ reads.0
           (written (sink_of c.args.conn.now)) (written (sink_of c.sign_in.new.conn)) (written (sink_of c.share.new.conn)) (written (sink_of c.catch_up.new.conn)) (written (sink_of c.go_on.new.conn))
-          c.in_ok-sign_in.ensures shares asks c.in_ok-outcome.ensures);
+          c.in_ok-sign_in.ensures.sent shares asks c.in_ok-outcome.ensures);
     }
