@@ -22,7 +22,7 @@ use sj_base::{EndId, Msg};
 use sj_lane::{InLane, OutLane};
 use sj_node::{Call, Halt};
 use sj_table::Spot;
-use sj_work::{Gate, Stop, Worker, work};
+use sj_work::{Gate, Stop, Worker, attend, push_out, work};
 
 /// Takes what came, and pushes what waits, until so many turns in a row have no event.
 pub(crate) fn deliver_all<O: OutLane, I: InLane, G: Gate>(
@@ -41,6 +41,35 @@ pub(crate) fn deliver_all<O: OutLane, I: InLane, G: Gate>(
     ensures stop { stop_of worker.new ≡ Some result }
 {
     work(worker, looks, gate)
+}
+
+/// Takes what came, once, and pushes what waits.
+pub(crate) fn deliver<O: OutLane, I: InLane, G: Gate>(worker: &mut Worker<O, I>, gate: &G) -> Stop
+    requires idle { wants_of (node_of worker.old) ≡ wants.Ended }
+    ensures keeps { Keeps (node_of worker.old) (node_of worker.new) }
+    ensures idle { wants_of (node_of worker.new) ≡ wants.Ended }
+    ensures work { (file : FileAt) (s : SeatedAt) →
+        length file.parties ≡ parties_of (node_of worker.old) →
+        SeatWork O.OutLane I.InLane file s s worker.old worker.new }
+    ensures acts { last_act (laned worker.new).log ≡ last_act (laned worker.old).log }
+    ensures counts { Counted O.OutLane I.InLane worker.old worker.new }
+    ensures stop { stop_of worker.new ≡ Some result }
+{
+    attend(worker, gate)
+}
+
+/// Pushes what waits.
+pub(crate) fn push<O: OutLane, I: InLane>(worker: &mut Worker<O, I>)
+    requires idle { wants_of (node_of worker.old) ≡ wants.Ended }
+    ensures keeps { Keeps (node_of worker.old) (node_of worker.new) }
+    ensures idle { wants_of (node_of worker.new) ≡ wants.Ended }
+    ensures work { (file : FileAt) (s : SeatedAt) →
+        length file.parties ≡ parties_of (node_of worker.old) →
+        SeatWork O.OutLane I.InLane file s s worker.old worker.new }
+    ensures acts { last_act (laned worker.new).log ≡ last_act (laned worker.old).log }
+    ensures counts { Counted O.OutLane I.InLane worker.old worker.new }
+{
+    let _ = push_out(worker);
 }
 
 /// Does the call, the guarded one of the party, where the node can. Whatever it refuses, the node is

@@ -1,6 +1,7 @@
 //! The turns of a worker, until there is a cause to stop.
 ghost use Rattle.std.specs.Prelude.{◌≡◌, ◌<◌, None, Some, IsFalse, IsTrue};
-ghost use Rattle.sj_node.specs.Node.{clock_of};
+ghost use Rattle.sj_node.specs.Node.{clock_of, wants_of};
+ghost use Rattle.sj_semantics.specs.declared.Want.TheVariants as wants;
 ghost use Rattle.sj_work.specs.Turns.{IsGoing, IsInVain, Turns};
 ghost use Rattle.sj_work.specs.Views.{looks_of, node_of, stop_of};
 ghost use Rattle.sj_work.specs.Worked.{Turned, Worked, kept_stop};
@@ -91,6 +92,51 @@ pub fn work<O: OutLane, I: InLane, G: Gate>(worker: &mut Worker<O, I>, looks: u3
     match worker.stop() {
         Some(stop) => stop,
         None => unreachable!(),
+    }
+}
+
+/// Takes what came, once, and pushes what waits, for a party with nothing to do of its own. A worker
+/// that stopped for good does nothing and answers it again.
+pub fn attend<O: OutLane, I: InLane, G: Gate>(worker: &mut Worker<O, I>, gate: &G) -> Stop
+    requires idle { wants_of (node_of worker.old) ≡ wants.Ended }
+    ensures worked { Worked O.OutLane I.InLane 0 worker.old worker.new }
+    ensures stop { stop_of worker.new ≡ Some result }
+{
+    if let Some(stop) = kept(worker.stop()) {
+        return stop;
+    }
+    worker.answer = finished(&worker.node);
+    if worker.answer.is_none() {
+        let _ = look_all(worker, gate);
+    }
+    push_on(worker)
+}
+
+/// Pushes what waits, for a party with nothing to do of its own. A worker that stopped for good does
+/// nothing and answers it again.
+pub fn push_out<O: OutLane, I: InLane>(worker: &mut Worker<O, I>) -> Stop
+    requires idle { wants_of (node_of worker.old) ≡ wants.Ended }
+    ensures worked { Worked O.OutLane I.InLane 0 worker.old worker.new }
+    ensures stop { stop_of worker.new ≡ Some result }
+{
+    if let Some(stop) = kept(worker.stop()) {
+        return stop;
+    }
+    worker.answer = finished(&worker.node);
+    push_on(worker)
+}
+
+// Pushes what waits, where the worker goes, and stops as idle then.
+fn push_on<O: OutLane, I: InLane>(worker: &mut Worker<O, I>) -> Stop {
+    if worker.answer.is_none() {
+        push_all(worker);
+    }
+    match worker.stop() {
+        Some(stop) => stop,
+        None => {
+            worker.answer = Some(Outcome::Idle);
+            Stop::Idle
+        }
     }
 }
 
