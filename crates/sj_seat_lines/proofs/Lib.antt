@@ -1,0 +1,4 @@
+mod FormLemmas
+mod RuleLemmas
+mod SendLemmas
+mod TakeLemmas

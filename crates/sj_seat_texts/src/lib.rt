@@ -1,0 +1,9 @@
+//! The texts of a run in which code plays parties: those of the file, and those that code adds.
+#![tactic(auto)]
+
+mod texts;
+
+pub use texts::Texts;
+
+#[cfg(test)]
+mod tests;

@@ -1,0 +1,57 @@
+use crate::Texts;
+use sj_base::NoMemory;
+use sj_lang::Words;
+use std::alloc::Global;
+use std::test::Fail;
+
+// The table of a file with two texts.
+fn table(alloc: Global) -> Result<Words, NoMemory> {
+    let mut words = Words::new(alloc);
+    let _ = words.add(b"Paris")?;
+    let _ = words.add(b"")?;
+    Ok(words)
+}
+
+// The numbers of texts, asked for one after another.
+fn numbers(alloc: Global, asked: &[&[u8]]) -> Result<Vec<u32>, NoMemory> {
+    let mut texts = Texts::of(alloc, &table(alloc)?)?;
+    let mut numbers = Vec::new(alloc);
+    for text in asked {
+        numbers.push(texts.number(text)?)?;
+    }
+    Ok(numbers)
+}
+
+#[test]
+fn a_text_has_one_number_whoever_asks(rt: HostRuntime) -> Result<(), Fail> {
+    let asked = [
+        b"Paris".as_slice(),
+        b"Oslo".as_slice(),
+        b"".as_slice(),
+        b"Rome".as_slice(),
+        b"Oslo".as_slice(),
+    ];
+    let Ok(numbers) = numbers(rt.alloc(), &asked) else {
+        return Err(Fail::from("no memory"));
+    };
+    assert_eq!(rt; numbers.as_slice(), [0, 2, 1, 3, 2].as_slice());
+    Ok(())
+}
+
+// What stands in a table of the file that gets a text that was added.
+fn added(alloc: Global, text: &[u8]) -> Result<bool, NoMemory> {
+    let mut words = table(alloc)?;
+    let mut texts = Texts::of(alloc, &words)?;
+    let number = texts.number(text)?;
+    texts.add_to(&mut words)?;
+    Ok(words.get(number as usize) == Some(text) && texts.get(number) == Some(text))
+}
+
+#[test]
+fn a_table_of_the_file_gets_all_texts(rt: HostRuntime) -> Result<(), Fail> {
+    let Ok(same) = added(rt.alloc(), b"Oslo") else {
+        return Err(Fail::from("no memory"));
+    };
+    assert_eq!(rt; same, true);
+    Ok(())
+}
