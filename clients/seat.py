@@ -27,7 +27,6 @@ class Label(str):
     """A label that was taken."""
 
 
-# each rule is an exception of its own
 NAMES = ["NoForm", "NotHeld", "BeginsOtherwise", "WrongEnd", "WrongKind", "AtLimit"]
 RULES = {"G%d" % (at + 1): type(name, (Refused,), {}) for at, name in enumerate(NAMES)}
 NoForm, NotHeld, BeginsOtherwise, WrongEnd, WrongKind, AtLimit = RULES.values()
