@@ -13,3 +13,6 @@ pub use local::seat_local;
 pub use output::{NO_MEMORY, WRITE_FAULT, checked, said, said_no_party};
 pub use parties::party_named;
 pub use playing::{LOOKS, Played, play_lines};
+
+#[cfg(test)]
+mod tests;
