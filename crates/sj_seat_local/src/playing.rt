@@ -1,9 +1,8 @@
 //! A party of an accepted file, played by lines.
-ghost use Rattle.std.specs.Prelude.{◌≡◌, IfOk};
+ghost use Rattle.std.specs.Prelude.{◌≡◌, ◌<◌, length};
 ghost use Rattle.sj_check.specs.Held.{file_in};
 ghost use Rattle.sj_lang.specs.FileView.{file_of};
-ghost use Rattle.sj_seat_local.specs.Played.{HasPlayed, HasTold, IsVerdict, OnlyOne};
-ghost use Rattle.sj_seat_run.specs.Seats.{seats_by};
+ghost use Rattle.sj_seat_local.specs.Played.{HasPlayed, HasTold, IsVerdict};
 
 use crate::code::ByLines;
 use crate::output::{NO_MEMORY, WRITE_FAULT, said, status_of};
@@ -11,7 +10,7 @@ use sj_base::{NoMemory, Sink, Source};
 use sj_check::Accepted;
 use sj_lane::RingLinks;
 use sj_lang::File;
-use sj_seat_end::{Told, run_to_end};
+use sj_seat_end::{Told, run_alone};
 use sj_seat_lines::{Ended, Left, LineReader, Lines, Party, first_names};
 use sj_seat_run::SeatedRefusal;
 use sj_seat_texts::Texts;
@@ -29,9 +28,6 @@ const READ_FAULT: u8 = 2;
 /// The status where a session was opened, so that there is no transcript yet.
 const OPENED: u8 = 13;
 
-/// The lines of the party, as code.
-type Code<'a, S, K> = ByLines<'a, S, K>;
-
 /// What playing a party by lines leaves: the status, and where the answers went, if that came back.
 #[derive(Drop)]
 pub struct Played<K> {
@@ -46,27 +42,20 @@ fn lost<K>(status: u8) -> Played<K>
     Played { status, out: None }
 }
 
-/// The lines as the code of that party, and no code of any other.
-fn codes_for<'a, S: Source + Drop, K: Sink + Drop>(
+/// The lines as the code of that party.
+fn code_for<'a, S: Source + Drop, K: Sink + Drop>(
     alloc: Global,
     file: &'a File,
     party: u16,
     patience: u32,
     lines: LineReader<S>,
     out: K,
-) -> Result<Vec<Option<Code<'a, S, K>>>, NoMemory>
-    ensures { IfOk result (λ codes. OnlyOne party (seats_by codes.items)) }
-{
+) -> Result<ByLines<'a, S, K>, NoMemory> {
     let texts = Texts::of(alloc, &file.names.texts)?;
     let names = first_names(alloc, file, party)?;
     let own = Party::new(alloc, file, texts, names, patience);
-    let mut codes = Vec::new(alloc);
-    for _ in 0..party {
-        codes.push(None)?;
-    }
     let lines = Lines::new(alloc, own, lines, out);
-    codes.push(Some(ByLines { lines }))?;
-    Ok(codes)
+    Ok(ByLines { lines })
 }
 
 /// Writes the transcript after the answers to lines, where all of these could be read and answered.
@@ -116,26 +105,20 @@ pub fn play_lines<R: Threads + Sync, S: Source + Send + Drop, K: Sink + Send + D
     lines: LineReader<S>,
     out: K,
 ) -> Played<K>
+    requires { party < length (file_of (file_in accepted.now)).parties }
+
     // What is written last is the transcript of a quiet world of the file, in which that party alone
     // was played by lines, and the status is that of its verdict.
     ensures { IsVerdict result.status
         → HasPlayed K.written (file_of (file_in accepted.now)) party result }
 {
-    let codes = match codes_for(alloc, accepted.file(), party, patience, lines, out) {
-        Ok(codes) => codes,
+    let code = match code_for(alloc, accepted.file(), party, patience, lines, out) {
+        Ok(code) => code,
         Err(NoMemory) => return lost(NO_MEMORY),
     };
     let mut links = RingLinks::new();
-    let end = match run_to_end(rt, alloc, accepted, codes, LOOKS, &mut links, &NoGate) {
-        Ok(end) => end,
-        Err(refusal) => return lost(status_for(refusal)),
-    };
-    let mut codes = end.codes;
-    if codes.len() <= usize::from(party) {
-        return lost(NO_MEMORY);
-    }
-    match codes.swap_remove(usize::from(party)) {
-        Some(code) => finish(code.lines.into_left(), end.told),
-        None => lost(NO_MEMORY),
+    match run_alone(rt, alloc, accepted, party, code, LOOKS, &mut links, &NoGate) {
+        Ok(end) => finish(end.code.lines.into_left(), end.told),
+        Err(refusal) => lost(status_for(refusal)),
     }
 }
