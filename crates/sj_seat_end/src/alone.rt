@@ -30,7 +30,7 @@ fn nobodys<C: Drop>(alloc: Global, count: u16) -> Result<Vec<Option<C>>, NoMemor
     ensures { IfOk result (λ codes. AreNobodys count codes.items) }
 {
     let mut codes = Vec::new(alloc);
-    for _ in 0..count {
+    for n in 0..count {
         codes.push(None)?;
     }
     Ok(codes)
