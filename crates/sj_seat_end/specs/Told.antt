@@ -16,13 +16,13 @@ use Rattle.sj_semantics.specs.declared.Verdict.{Verdict}
 pub record IsToldBy (file : FileAt) (w : SeatedWorld) (verdict : Verdict) (text : List ℕ) : Type 0 where
   pub plain : SeatsWorld
   pub is : IsUnopenedEnd file w plain
-  pub text : text ≡ seats_transcript file plain
-  pub verdict : verdict ≡ seats_verdict plain
+  pub transcript : text ≡ seats_transcript file plain
+  pub ends : verdict ≡ seats_verdict plain
 
 -- a world of the file that leaves nothing to do, in which code plays these parties
 pub record IsAtEnd (file : FileAt) (seats : ℕ → Bool) (w : SeatedWorld) : Type 0 where
   pub quiet : IsQuietOf file w
-  pub seats : (p : ℕ) → p < length file.parties → seats_of w p ≡ seats p
+  pub same : (p : ℕ) → p < length file.parties → seats_of w p ≡ seats p
 
 -- such a world reports that
 pub record IsEndTold (file : FileAt) (seats : ℕ → Bool) (verdict : Verdict) (text : List ℕ) : Type 0 where
