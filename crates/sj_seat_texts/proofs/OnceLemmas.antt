@@ -116,3 +116,9 @@ module _ (all : List (List ℕ)) (once : IsEachOnce all) (k n m : ℕ) (word : L
     | inl below ↦ inside below (nat_lt m (length (take k all))) refl is
     | inr above ↦ outside (omega (arith, le, above)) (nat_lt m (length (take k all))) is
   ]
+
+-- so many are there
+pub there_within : (xs : List (List ℕ)) (n : ℕ) → n < length xs → slice_get xs n ≢ None
+there_within [] n lt e = absurd (omega (arith, lt))
+there_within (x ∷ xs) zero lt e = absurd (cc)
+there_within (x ∷ xs) (suc n) lt e = there_within xs n (omega (arith, lt)) e
