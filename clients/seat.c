@@ -23,8 +23,8 @@ static enum said answered(struct seat *seat) {
     if (getline(&seat->answer, &seat->room, seat->answers) < 0)
         return STOPPED;
     seat->answer[strcspn(seat->answer, "\n")] = 0;
-    const char *good[] = {"fine", "took", "ends", "ahead", "again", "go"};
-    for (int i = 0; i < 6; i++)
+    const char *good[] = {"fine", "took", "opened", "ends", "ahead", "again", "go"};
+    for (int i = 0; i < 7; i++)
         if (!strncmp(seat->answer, good[i], strlen(good[i])))
             return FINE;
     return !strncmp(seat->answer, "refused", 7) ? REFUSED : !strcmp(seat->answer, "waiting") ? WAITING : STOPPED;

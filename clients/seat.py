@@ -27,9 +27,9 @@ class Label(str):
     """A label that was taken."""
 
 
-NAMES = ["NoForm", "NotHeld", "BeginsOtherwise", "WrongEnd", "WrongKind", "AtLimit"]
+NAMES = ["NoForm", "NotHeld", "BeginsOtherwise", "WrongEnd", "WrongKind", "AtLimit", "Waits", "NotOpened"]
 RULES = {"G%d" % (at + 1): type(name, (Refused,), {}) for at, name in enumerate(NAMES)}
-NoForm, NotHeld, BeginsOtherwise, WrongEnd, WrongKind, AtLimit = RULES.values()
+NoForm, NotHeld, BeginsOtherwise, WrongEnd, WrongKind, AtLimit, Waits, NotOpened = RULES.values()
 
 
 class Session:
@@ -60,7 +60,7 @@ class Session:
         if word == "refused":
             _, rule, why = rest.split(" ", 2)
             raise RULES[rule](why)
-        if word not in ("fine", "took", "ends", "ahead"):
+        if word not in ("fine", "took", "ends", "ahead", "opened"):
             raise (Waiting if word == "waiting" else Stopped)(word + " " + rest)
         return rest
 

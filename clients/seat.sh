@@ -16,7 +16,7 @@ answered() {
     case $answer in
         refused*) return 1 ;;
         waiting) return 2 ;;
-        fine | took* | ends* | ahead* | again* | go) return 0 ;;
+        fine | took* | opened* | ends* | ahead* | again* | go) return 0 ;;
         *) return 3 ;;
     esac
 }

@@ -17,7 +17,7 @@ RULES = [b"it has none of the forms of a line", b"an end isn't held", b"the plac
 WRONG = [(b"sing x", 1), (b"send  x 5", 1), (b"send x 05", 1), (b"", 1), (b"ends x", 1), (b"ahead", 1), (b"take any x  y", 1), (b"take nowhere", 2), (b"close nowhere", 2),
          (b"delegate nowhere nowhere", 2), (b"ahead nowhere", 2), (b"take any nowhere other", 2)]
 MESSAGE = rb'(?:int -?[0-9]+|boolean (?:true|false)|String "[^"]*"|label \w+|more|stop|session [0-9]+\.[01] \w+ \w+)'
-SAID = re.compile(rb"fine|took \w+ " + MESSAGE + rb"|ends(?: \w+)*|ahead begin.*|waiting|refused ([1-9][0-9]*) G(?:" + b"|".join(b"%d %s" % (n + 1, re.escape(it)) for n, it in enumerate(RULES)) + rb")")
+SAID = re.compile(rb"fine|took \w+ " + MESSAGE + rb"|opened \w+|ends(?: \w+)*|ahead begin.*|waiting|refused ([1-9][0-9]*) G(?:" + b"|".join(b"%d %s" % (n + 1, re.escape(it)) for n, it in enumerate(RULES) if it) + rb")")
 LAST = re.compile(rb"(.*\n)?(done|blocked|long|" + NONE + rb")\n", re.S)
 
 

@@ -1,9 +1,9 @@
 //! The file before the lines.
+use crate::reader::{LineReader, Next};
 use sj_base::{NoMemory, Source};
 use sj_check::{Accepted, check};
 use sj_party::parse_file;
 use sj_proto::Tokens;
-use sj_seat_lines::{LineReader, Next};
 use std::alloc::Global;
 
 /// What stands before the line `%%talk`.

@@ -3,16 +3,19 @@
 
 mod code;
 mod files;
+mod lines;
 mod local;
 mod output;
 mod parties;
 mod playing;
+mod reader;
 
 pub use files::{Before, accepted, file_before};
 pub use local::seat_local;
 pub use output::{NO_MEMORY, WRITE_FAULT, checked, said, said_no_party};
 pub use parties::party_named;
 pub use playing::{LOOKS, Played, play_lines};
+pub use reader::{LineReader, Next};
 
 #[cfg(test)]
 mod tests;

@@ -3,8 +3,8 @@ use crate::files::{Before, accepted, file_before};
 use crate::output::{NO_MEMORY, WRITE_FAULT, checked, said, said_no_party};
 use crate::parties::party_named;
 use crate::playing::play_lines;
+use crate::reader::LineReader;
 use sj_base::{NoMemory, Sink, Source, write_all_of};
-use sj_seat_lines::LineReader;
 use std::alloc::Global;
 use std::thread::Threads;
 

@@ -5,13 +5,15 @@ ghost use Rattle.sj_lang.specs.FileView.{file_of};
 ghost use Rattle.sj_seat_local.specs.Played.{HasPlayed, HasTold, IsVerdict};
 
 use crate::code::ByLines;
+use crate::lines::{Ended, Left, Lines};
 use crate::output::{NO_MEMORY, WRITE_FAULT, said, status_of};
+use crate::reader::LineReader;
 use sj_base::{NoMemory, Sink, Source};
 use sj_check::Accepted;
 use sj_lane::RingLinks;
 use sj_lang::File;
 use sj_seat_end::{Told, run_alone};
-use sj_seat_lines::{Ended, Left, LineReader, Lines, Party, first_names};
+use sj_seat_lines::{Party, first_names};
 use sj_seat_run::SeatedRefusal;
 use sj_seat_texts::Texts;
 use sj_seat_told::TranscriptRefusal;

@@ -1,14 +1,16 @@
 //! A party's code that reads lines, and writes their answers.
-use crate::asks::MOST_LINE;
-use crate::party::{Heard, Party};
 use crate::reader::{LineReader, Next};
-use sj_base::{Msg, NoMemory, Sink, Source, write_all_of};
-use sj_seat::{Guard, SeatRefusal, Wish};
+use sj_base::{NoMemory, Sink, Source, write_all_of};
+use sj_seat::Guard;
+use sj_seat_lines::{Answer, Ask, Heard, Party};
 use std::alloc::Global;
+
+/// The most bytes of a line that are kept. A longer one has no form.
+const MOST_LINE: usize = 4097;
 
 /// How the lines of a party ended.
 #[derive(Clone, Copy, Debug, PartialEq, Eq)]
-pub enum Ended {
+pub(crate) enum Ended {
     /// The lines are over.
     AtEnd,
     /// A line said so.
@@ -23,7 +25,7 @@ pub enum Ended {
 
 /// A party's code that reads lines, and answers each by one line as soon as it is done or refused.
 #[derive(Drop)]
-pub struct Lines<'a, S, K> {
+pub(crate) struct Lines<'a, S, K> {
     alloc: Global,
     party: Party<'a>,
     lines: LineReader<S>,
@@ -33,7 +35,7 @@ pub struct Lines<'a, S, K> {
 
 /// What lines leave: how they ended, and where the answers went.
 #[derive(Drop)]
-pub struct Left<K> {
+pub(crate) struct Left<K> {
     pub ended: Option<Ended>,
     pub sink: K,
 }
@@ -60,13 +62,9 @@ impl<'a, S: Source + Drop, K: Sink + Drop> Lines<'a, S, K> {
 
     /// What the party does next, where its last call was answered so: the same call where that waits,
     /// or that of the next line that is one. None where the lines are over.
-    pub fn next(
-        &mut self,
-        seat: Guard<'_>,
-        answer: Option<Result<Option<Msg>, SeatRefusal>>,
-    ) -> Option<Wish> {
+    pub fn next(&mut self, seat: Guard<'_>, answer: Option<Answer>) -> Option<Ask> {
         match self.go_on(seat, answer) {
-            Ok(wish) => Some(wish),
+            Ok(ask) => Some(ask),
             Err(ended) => {
                 self.ended = Some(ended);
                 None
@@ -74,31 +72,27 @@ impl<'a, S: Source + Drop, K: Sink + Drop> Lines<'a, S, K> {
         }
     }
 
-    fn go_on(
-        &mut self,
-        seat: Guard<'_>,
-        answer: Option<Result<Option<Msg>, SeatRefusal>>,
-    ) -> Result<Wish, Ended> {
+    fn go_on(&mut self, seat: Guard<'_>, answer: Option<Answer>) -> Result<Ask, Ended> {
         if let Some(answer) = answer {
             let mut text = Vec::new(self.alloc);
             let heard = self.party.settle(answer, &mut text);
-            if let Some(wish) = self.answered(heard, &text)? {
-                return Ok(wish);
+            if let Some(ask) = self.answered(heard, &text)? {
+                return Ok(ask);
             }
         }
         for _ in 0..u64::MAX {
             let line = self.next_line()?;
             let mut text = Vec::new(self.alloc);
             let heard = self.party.hear(seat, &line, &mut text);
-            if let Some(wish) = self.answered(heard, &text)? {
-                return Ok(wish);
+            if let Some(ask) = self.answered(heard, &text)? {
+                return Ok(ask);
             }
         }
         Err(Ended::AtEnd)
     }
 
     fn next_line(&mut self) -> Result<Vec<u8>, Ended> {
-        match self.lines.next(MOST_LINE + 1) {
+        match self.lines.next(MOST_LINE) {
             Ok(Next::Line(line)) => Ok(line),
             Ok(Next::End) => Err(Ended::AtEnd),
             Ok(Next::Failed) => Err(Ended::Unread),
@@ -111,7 +105,7 @@ impl<'a, S: Source + Drop, K: Sink + Drop> Lines<'a, S, K> {
         &mut self,
         heard: Result<Heard, NoMemory>,
         text: &[u8],
-    ) -> Result<Option<Wish>, Ended> {
+    ) -> Result<Option<Ask>, Ended> {
         let Ok(heard) = heard else {
             return Err(Ended::NoMemory);
         };
@@ -119,7 +113,10 @@ impl<'a, S: Source + Drop, K: Sink + Drop> Lines<'a, S, K> {
             return Err(Ended::Unwritten);
         }
         match heard {
-            Heard::Asks(wish) => Ok(Some(wish)),
+            Heard::Asks => match self.party.asked() {
+                Ok(ask) => Ok(ask),
+                Err(NoMemory) => Err(Ended::NoMemory),
+            },
             Heard::Answered => Ok(None),
             Heard::Left => Err(Ended::Left),
         }

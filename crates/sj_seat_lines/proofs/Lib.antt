@@ -1,4 +1,0 @@
-mod FormLemmas
-mod RuleLemmas
-mod SendLemmas
-mod TakeLemmas
