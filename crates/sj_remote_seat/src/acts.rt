@@ -88,7 +88,7 @@ pub(crate) fn ask_for<O: OutLane, I: InLane, G: Gate, C: Play>(
 {
     let mut asked: u32 = 0;
     for _ in 0..u64::MAX {
-        let Some(wish) = asking.asks(code, guest.guard()) else {
+        let Some(wish) = asking.asks_again(code, guest.guard(), entry.note) else {
             return Err(SeatPlayRefusal::OtherCode);
         };
         if is_noted(wish, entry.note) {

@@ -1,6 +1,7 @@
 //! What the code asks for, and what it is answered.
 
 use sj_base::NoMemory;
+use sj_end::Note;
 use sj_seat::{Guard, SeatRefusal, Wish};
 use sj_seat_run::{Answer, Play};
 use std::alloc::Global;
@@ -19,6 +20,8 @@ pub(crate) struct Asking {
     over: bool,
     /// The calls that were answered as waiting since something came.
     waiting: Vec<Wish>,
+    /// What was done is to stand at the server before the code is asked again.
+    paused: bool,
 }
 
 impl Asking {
@@ -29,7 +32,18 @@ impl Asking {
             answer: None,
             over: false,
             waiting: Vec::new(alloc),
+            paused: false,
         }
+    }
+
+    /// Whether what was done is to stand at the server before the code is asked again.
+    pub fn is_paused(&self) -> bool {
+        self.paused
+    }
+
+    /// What was done is to stand at the server before the code is asked again, or stands there now.
+    pub fn set_paused(&mut self, paused: bool) {
+        self.paused = paused;
     }
 
     /// Whether the code asks for nothing more.
@@ -41,6 +55,20 @@ impl Asking {
     pub fn asks<C: Play>(&mut self, code: &mut C, seat: Guard<'_>) -> Option<Wish> {
         if self.wish.is_none() && !self.over {
             self.wish = code.next(seat, self.answer);
+            self.over = self.wish.is_none();
+        }
+        self.wish
+    }
+
+    /// What the code asks for, where its party did that already.
+    pub fn asks_again<C: Play>(
+        &mut self,
+        code: &mut C,
+        seat: Guard<'_>,
+        did: Note,
+    ) -> Option<Wish> {
+        if self.wish.is_none() && !self.over {
+            self.wish = code.again(seat, self.answer, did);
             self.over = self.wish.is_none();
         }
         self.wish

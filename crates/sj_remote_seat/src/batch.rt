@@ -29,7 +29,7 @@ fn take_turns<'a, C: Play>(
         }
         let (next, carried) = go_home(alloc, going)?;
         going = next;
-        if !carried {
+        if !carried || asking.is_paused() {
             return Ok(going);
         }
     }

@@ -1,5 +1,5 @@
 //! A party that code plays, over a connection.
-ghost use Rattle.std.specs.Prelude.{◌≡◌, ◌<◌, [], IfOk, IfSome, length};
+ghost use Rattle.std.specs.Prelude.{◌≡◌, ◌<◌, [], IfOk, length};
 ghost use Rattle.sj_check.specs.Held.{file_in};
 ghost use Rattle.sj_lang.specs.FileAt.{body_named};
 ghost use Rattle.sj_lang.specs.FileView.{file_of};
@@ -100,8 +100,8 @@ fn catch_up<'a, C: sj_seat_run::Play>(
     Ok(going)
 }
 
-/// Adds what the party noted, where it noted something, and takes what comes. None where nothing
-/// came for so long.
+/// Adds what the party noted, where it noted something, and takes what comes. Answers whether
+/// something came meanwhile.
 fn hand_in<'a, S: Source, K: Sink>(
     alloc: Global,
     conn: &mut Conn<S, K>,
@@ -109,17 +109,15 @@ fn hand_in<'a, S: Source, K: Sink>(
     seat: Seat<'a>,
     streams: &mut Streams,
     wait: u64,
-) -> Result<Option<Seat<'a>>, PlayRefusal>
-    ensures goes { IfOk result (λ o. IfSome o (λ new. Goes seat.entry new)) }
+) -> Result<(Seat<'a>, bool), PlayRefusal>
+    ensures goes { IfOk result (λ r. Goes seat.entry r.0) }
 {
     let (worker, holdings) = seat.into_parts();
     let (lanes, node, noted) = worker.into_parts();
     let mut player = Player { node, lanes };
-    if !exchange(alloc, conn, file, &mut player, streams, &noted, wait)? {
-        return Ok(None);
-    }
+    let came = exchange(alloc, conn, file, &mut player, streams, &noted, wait)?;
     let worker = Worker::new(player.node, player.lanes);
-    Ok(Some(holdings.with_worker(worker)))
+    Ok((holdings.with_worker(worker), came))
 }
 
 /// Adds what the party noted last.
@@ -154,10 +152,14 @@ fn go_on<S: Source, K: Sink, C: sj_seat_run::Play>(
             hand_in_last(alloc, conn, file, next, streams)?;
             return Ok(outcome);
         }
-        going = match hand_in(alloc, conn, file, next, streams, wait)? {
-            Some(seat) => seat,
-            None => return Ok(outcome),
-        };
+        let paused = asking.is_paused();
+        asking.set_paused(false);
+        let wait = if paused { 1 } else { wait };
+        let (next, came) = hand_in(alloc, conn, file, next, streams, wait)?;
+        if !paused && !came && !code.plays_on() {
+            return Ok(outcome);
+        }
+        going = next;
     }
     Ok(Outcome::Limit)
 }

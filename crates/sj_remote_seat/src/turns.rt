@@ -38,6 +38,10 @@ fn ask_on<O: OutLane, I: InLane, G: Gate, C: Play>(
         if asking.answer_once(wish, told)? {
             return Ok(());
         }
+        if told.is_ok() && code.is_careful() {
+            asking.set_paused(true);
+            return Ok(());
+        }
     }
     Ok(())
 }
