@@ -47,6 +47,7 @@ pub(crate) fn refused(refusal: SeatRefusal) -> Answer<'static>
         SeatRefusal::BeginsOtherwise => Answer::Refused(3),
         SeatRefusal::WrongEnd => Answer::Refused(4),
         SeatRefusal::WrongKind => Answer::Refused(5),
+        SeatRefusal::NotOpened => Answer::Refused(5),
         SeatRefusal::AtLimit => Answer::Refused(6),
         SeatRefusal::Waiting => Answer::Waiting,
         SeatRefusal::Stopped(stop) => Answer::Stopped(stop),
