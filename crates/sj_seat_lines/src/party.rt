@@ -191,7 +191,7 @@ impl<'a> Party<'a> {
             let Some(end) = end_of(&self.names, name) else {
                 return self.say(text, Answer::Refused(NOT_HELD));
             };
-            if let Err(refusal) = seat.check(Wish::Take { end }) {
+            if let Err(refusal) = seat.take(end) {
                 return self.say(text, refused(refusal));
             }
             ends.push(end)?;
