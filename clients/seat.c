@@ -1,5 +1,6 @@
-/* A party of a file, played by C over `sjseat --local`: one that is asked for something, and answers it. To copy.
-   usage: seat FILE PARTY END VALUE, where END begins with the taking of a value and goes on with the sending of VALUE, written as in a line */
+/* A party of a file, played by C over the program `sjseat`. To copy.
+   usage: seat FILE PARTY LINE.., which asks for one line after another, each again as long as it waits, and prints its answer. SEAT has
+   the words after the party, as `--run visit --server 127.0.0.1:6379`; without it they are `--local`. */
 #define _POSIX_C_SOURCE 200809L
 #include <stdio.h>
 #include <stdlib.h>
@@ -12,45 +13,62 @@ struct seat {
     pid_t child;
     char *answer; /* the last one */
     size_t room;
+    int done; /* so many acts were done by a process before this one */
 };
 
 enum said { FINE, REFUSED, WAITING, STOPPED };
 
+/* The next answer, in seat->answer. */
+static enum said answered(struct seat *seat) {
+    if (getline(&seat->answer, &seat->room, seat->answers) < 0)
+        return STOPPED;
+    seat->answer[strcspn(seat->answer, "\n")] = 0;
+    const char *good[] = {"fine", "took", "ends", "ahead", "again", "go"};
+    for (int i = 0; i < 6; i++)
+        if (!strncmp(seat->answer, good[i], strlen(good[i])))
+            return FINE;
+    return !strncmp(seat->answer, "refused", 7) ? REFUSED : !strcmp(seat->answer, "waiting") ? WAITING : STOPPED;
+}
+
 /* Starts the party of the file; 0 where it can't. */
-static int begin(struct seat *seat, const char *file, const char *party) {
-    const char *program = getenv("SJSEAT") ? getenv("SJSEAT") : "sjseat";
-    int to[2], from[2], byte;
+static int begin(struct seat *seat, const char *file, char *party) {
+    char *program = getenv("SJSEAT") ? getenv("SJSEAT") : "sjseat";
+    char *words[16] = {program, party}, *mode = strdup(getenv("SEAT") ? getenv("SEAT") : "--local");
+    int to[2], from[2], byte, n = 2;
+    for (char *word = strtok(mode, " "); word && n < 15; word = strtok(NULL, " "))
+        words[n++] = word;
     FILE *text = fopen(file, "r");
     if (!text || pipe(to) || pipe(from) || (seat->child = fork()) < 0)
         return 0;
     if (seat->child == 0) {
-        dup2(to[0], 0);
-        dup2(from[1], 1);
+        dup2(to[0], 0), dup2(from[1], 1);
         close(to[0]), close(to[1]), close(from[0]), close(from[1]);
-        execlp(program, program, "--local", party, (char *)NULL);
+        execvp(program, words);
         _exit(127);
     }
-    close(to[0]), close(from[1]);
-    seat->lines = fdopen(to[1], "w"), seat->answers = fdopen(from[0], "r");
-    seat->answer = NULL, seat->room = 0;
+    close(to[0]), close(from[1]), free(mode);
+    *seat = (struct seat){fdopen(to[1], "w"), fdopen(from[0], "r"), seat->child, NULL, 0, 0};
     while ((byte = getc(text)) != EOF)
         putc(byte, seat->lines);
     fputs("\n%%talk\n", seat->lines);
-    fclose(text);
-    return 1;
-}
-
-/* Asks for a line; its answer is in seat->answer. */
-static enum said ask(struct seat *seat, const char *verb, const char *end, const char *what) {
-    fprintf(seat->lines, what ? "%s %s %s\n" : "%s %s\n", verb, end, what);
     fflush(seat->lines);
-    if (getline(&seat->answer, &seat->room, seat->answers) < 0 || !strncmp(seat->answer, "stopped", 7))
-        return STOPPED;
-    seat->answer[strcspn(seat->answer, "\n")] = 0;
-    return !strncmp(seat->answer, "refused", 7) ? REFUSED : !strcmp(seat->answer, "waiting") ? WAITING : FINE;
+    fclose(text);
+    while (answered(seat) == FINE && strcmp(seat->answer, "go"))
+        puts(seat->answer), seat->done++;
+    return seat->answer && !strcmp(seat->answer, "go");
 }
 
-/* No further line; prints the transcript, and gives the status. */
+/* Asks for a line, again as long as it waits. */
+static enum said ask(struct seat *seat, const char *line) {
+    enum said said;
+    do {
+        fprintf(seat->lines, "%s\n", line);
+        fflush(seat->lines);
+    } while ((said = answered(seat)) == WAITING);
+    return said;
+}
+
+/* No further line; prints what comes yet, and gives the status. */
 static int leave(struct seat *seat) {
     int status, byte;
     fclose(seat->lines);
@@ -63,15 +81,9 @@ static int leave(struct seat *seat) {
 
 int main(int count, char **words) {
     struct seat seat;
-    enum said said;
-    if (count != 5 || !begin(&seat, words[1], words[2]))
-        return 2;
-    while ((said = ask(&seat, "take", words[3], NULL)) == WAITING)
-        ;
-    puts(seat.answer ? seat.answer : "nothing");
-    if (said == FINE && ask(&seat, "send", words[3], words[4]) == FINE)
-        said = ask(&seat, "close", words[3], NULL);
-    if (said != FINE)
-        puts(seat.answer ? seat.answer : "nothing");
+    if (count < 3 || !begin(&seat, words[1], words[2]))
+        return puts(count < 3 ? "usage: seat FILE PARTY LINE.." : seat.answer ? seat.answer : "nothing"), 2;
+    for (int i = 3 + seat.done; i < count && ask(&seat, words[i]) != STOPPED; i++)
+        puts(seat.answer);
     return leave(&seat);
 }

@@ -1,11 +1,11 @@
-"""A party of a file, played by Python over `sjseat --local`. To copy.
+"""A party of a file, played by Python over the program `sjseat`. To copy.
 
-with Session("desk.sj", "store") as store:
+with Session("desk.sj", "store") as store:        # or Session("desk.sj", "store", "--run", "visit", "--server", "127.0.0.1:6379")
     end = store.take("u", "s")         # an end, under the name that it gets
     wanted = store.take(end)           # a number, a truth value, a text, a Label, or whether a loop turns
     store.send(end, 12)
     store.close(end)
-print(store.transcript)
+print(store.rest)                      # with --local the transcript
 """
 import os
 import subprocess
@@ -20,26 +20,31 @@ class Waiting(Exception):
 
 
 class Stopped(Exception):
-    """Nothing is done any more."""
+    """Nothing is done any more, or the party isn't played at all."""
 
 
 class Label(str):
     """A label that was taken."""
 
 
-# each rule is an exception of its own
 NAMES = ["NoForm", "NotHeld", "BeginsOtherwise", "WrongEnd", "WrongKind", "AtLimit"]
 RULES = {"G%d" % (at + 1): type(name, (Refused,), {}) for at, name in enumerate(NAMES)}
 NoForm, NotHeld, BeginsOtherwise, WrongEnd, WrongKind, AtLimit = RULES.values()
 
 
 class Session:
-    def __init__(self, file, party, *options):
-        words = [os.environ.get("SJSEAT", "sjseat"), "--local", str(party), *options]
+    def __init__(self, file, party, *words):
+        words = [os.environ.get("SJSEAT", "sjseat"), str(party), *(words or ["--local"])]
         self.child = subprocess.Popen(words, stdin=subprocess.PIPE, stdout=subprocess.PIPE, text=True)
+        self.rest, self.status, self.again = None, None, []
         with open(file) as text:
             self.child.stdin.write(text.read() + "\n%%talk\n")
-        self.transcript = self.status = None
+        self.child.stdin.flush()
+        while (said := self.child.stdout.readline().rstrip("\n")) != "go":  # before it, what a process before this one did
+            if not said.startswith("again "):
+                self.leave()
+                raise Stopped(said + "\n" + self.rest)
+            self.again.append(said[len("again "):])
 
     def __enter__(self):
         return self
@@ -60,8 +65,7 @@ class Session:
         return rest
 
     def send(self, end, value):
-        known = {bool: lambda: str(value).lower(), int: lambda: value, str: lambda: '"%s"' % value}
-        self.ask("send", end, known[type(value)]())
+        self.ask("send", end, '"%s"' % value if isinstance(value, str) else str(value).lower())
 
     def select(self, end, label):
         self.ask("select", end, label)
@@ -84,11 +88,9 @@ class Session:
         self.ask("close", end)
 
     def leave(self):
-        """The transcript of the run, in which no further line comes."""
-        if self.transcript is None:
-            self.child.stdin.close()
-            self.transcript, self.status = self.child.stdout.read(), self.child.wait()
-        return self.transcript
+        """No further line comes; what the program says then is in `rest`, and its status in `status`."""
+        if self.rest is None:
+            self.rest, self.status = self.child.communicate()[0], self.child.wait()
 
 
 def took(answer):

@@ -1,32 +1,49 @@
 #!/bin/sh
-# A party of a file, played by a shell script over `sjseat --local`: one that asks for something and prints the answer. To copy.
-# usage: seat.sh FILE PARTY END TEXT, where END begins with the sending of a text and goes on with the taking of an answer
+# A party of a file, played by a shell script over the program `sjseat`: one that asks for something and prints the answer. To copy.
+# usage: seat.sh FILE PARTY END TEXT, where END begins with the sending of a text and goes on with the taking of an answer. SEAT has
+# the words after the party, as `--run visit --server 127.0.0.1:6379`; without it they are `--local`.
 set -u
 folder=$(mktemp -d) || exit 2
 trap 'rm -rf "$folder"' EXIT
 mkfifo "$folder/lines" "$folder/answers" || exit 2
-"${SJSEAT:-sjseat}" --local "$2" <"$folder/lines" >"$folder/answers" &
+# shellcheck disable=SC2086 # these are words, one by one
+"${SJSEAT:-sjseat}" "$2" ${SEAT:---local} <"$folder/lines" >"$folder/answers" &
 exec 3>"$folder/lines" 4<"$folder/answers"
 
-# Asks for a line; its answer is in $answer. The status is 1 where it was refused, 2 where it waits.
-ask() {
-    printf '%s\n' "$1" >&3
+# The next answer, in $answer. The status is 1 where a line was refused, 2 where it waits, 3 where nothing is done any more.
+answered() {
     IFS= read -r answer <&4 || exit 2
     case $answer in
         refused*) return 1 ;;
-        waiting | stopped*) return 2 ;;
+        waiting) return 2 ;;
+        fine | took* | ends* | ahead* | again* | go) return 0 ;;
+        *) return 3 ;;
     esac
 }
 
-{ cat "$1"; printf '\n%%%%talk\n'; } >&3
-ask "send $3 \"$4\"" || { echo "not sent: $answer"; exit 1; }
-until ask "take $3"; do
-    [ "$answer" = waiting ] || { echo "nothing taken: $answer"; exit 1; }
-done
-echo "${answer#took "$3" }"
-ask "close $3" || echo "not closed: $answer"
+# Asks for a line, again as long as it waits.
+ask() {
+    while printf '%s\n' "$1" >&3; answered; said=$?; [ "$said" -eq 2 ]; do :; done
+    return "$said"
+}
 
-# No further line; the transcript is what comes yet.
-exec 3>&-
-cat <&4
-wait $!
+# What comes yet, once no further line does.
+leave() {
+    exec 3>&-
+    cat <&4
+    wait $!
+}
+
+{ cat "$1"; printf '\n%%%%talk\n'; } >&3
+# what a process before this one did, and then `go`
+done=0
+while answered && [ "$answer" != go ]; do
+    echo "$answer"
+    done=$((done + 1))
+done
+[ "$answer" = go ] || { echo "not played: $answer"; leave; exit; }
+[ "$done" -gt 0 ] || ask "send $3 \"$4\"" || echo "not sent: $answer"
+[ "$done" -gt 1 ] || ask "take $3" || echo "nothing taken: $answer"
+[ "$done" -gt 1 ] || echo "${answer#took "$3" }"
+[ "$done" -gt 2 ] || ask "close $3" || echo "not closed: $answer"
+leave

@@ -1,9 +1,15 @@
 #!/bin/sh
-# Tries the clients of this folder on files of examples/, and examples/desk.py. SJSEAT names the program where it isn't as `rt ci` leaves it. The last line is
-# `N tried, M bad`; the status is 1 where one was bad.
+# Tries the clients of this folder on files of examples/, and examples/desk.py and front.py. SJSEAT names the program where it isn't as
+# `rt ci` leaves it. What isn't installed is left out, and that is said. The last line is `N tried, M bad`; the status is 1 where one
+# was bad.
 cd "$(dirname "$0")" || exit 2
 SJSEAT=${SJSEAT:-$(pwd)/../crates/sjseat/out/sjseat}
 export SJSEAT
+unset SEAT
+if [ ! -x "$SJSEAT" ]; then
+    echo "the clients are left out: $SJSEAT isn't built"
+    exit 0
+fi
 work=$(mktemp -d) || exit 2
 trap 'rm -rf "$work"' EXIT
 tried=0
@@ -25,12 +31,25 @@ is() {
 is 'a shell script asks the desk' ./seat.sh ../examples/desk.sj ann x 'an umbrella'
 { echo 'String "Hello, Ann"'; cat ../examples/greeting.txt; } >"$work/wanted"
 is 'a shell script greets' ./seat.sh ../examples/greeting.sj ann x 'Hello, Bob'
-{ echo 'no price yet: the place of the end begins otherwise'; echo 'wanted: an umbrella'; cat ../examples/desk.txt; } >"$work/wanted"
-is 'Python plays the store' ../examples/desk.py
-if command -v cc >/dev/null; then
-    { echo 'took y String "Hello, Bob"'; cat ../examples/greeting.txt; } >"$work/wanted"
-    cc -o "$work/seat" seat.c || exit 2
-    is 'C answers' "$work/seat" ../examples/greeting.sj bob y '"Hello, Ann"'
+if command -v python3 >/dev/null; then
+    { echo 'no price yet: the place of the end begins otherwise'; echo 'wanted: an umbrella'; cat ../examples/desk.txt; } >"$work/wanted"
+    is 'Python plays the store' python3 -B ../examples/desk.py
+    cat >"$work/wanted" <<'END'
+200 {"of": "an umbrella", "price": 12}
+400 {"rule": "WrongKind", "why": "what is sent is of another kind"}
+404 {"why": "GET /price?of=.."}
+END
+    is 'requests are sessions' python3 -B ../examples/front.py --try
+else
+    echo "python3 isn't here (apt-get install python3): its client is left out"
+fi
+if command -v cc >/dev/null && cc -o "$work/seat" seat.c 2>"$work/said"; then
+    { echo 'took y String "Hello, Bob"'; echo fine; echo fine; cat ../examples/greeting.txt; } >"$work/wanted"
+    is 'C answers' "$work/seat" ../examples/greeting.sj bob 'take y' 'send y "Hello, Ann"' 'close y'
+    { echo 'refused 1 G4 the end can'\''t be sent there, or the name is in use'; echo fine; echo fine; cat ../examples/desk.txt; } >"$work/wanted"
+    is 'C plays the desk' "$work/seat" ../examples/desk.sj desk 'delegate z z' 'delegate z y' 'close z'
+else
+    echo "no C compiler is here (apt-get install gcc libc6-dev): its client is left out"
 fi
 echo "$tried tried, $bad bad"
 [ "$bad" -eq 0 ]

@@ -102,7 +102,7 @@ def one(number, tally):
         name = found[1]
         if OPENS.search(found[2]):
             continue  # no line requests or accepts a session
-        words = ["--local", name.decode(), "--tries", "1000000"]
+        words = [name.decode(), "--local", "--patience", "1000000"]
         lines, wanted = played(rng, text, name, log)
         got = answer(words, talk(text, lines), SJSEAT)
         said = b"".join(line + b"\n" for line in wanted)
@@ -114,7 +114,7 @@ def one(number, tally):
         tally.one(good, "party %d: %s" % (party, got[0]), talk(text, lines))
         ends, labels = list(names_of(text, name).values()) or [b"x"], re.findall(rb"\bL[0-9]\b|\b[A-Z]+\b", text) + [b"NONE"]
         for lines in [[any_line(rng, ends + [b"t0"], labels) for _ in range(40)], [any_bytes(rng, ends) for _ in range(40)]]:
-            got = answer([str(party) if word == words[1] else word for word in words[:3]] + ["2"], talk(text, lines), SJSEAT)
+            got = answer([str(party), "--local", "--patience", "2"], talk(text, lines), SJSEAT)
             tally.one(is_answered(got, lines), "party %d, lines at random: %s" % (party, got[0]), talk(text, lines))
 
 

@@ -1,4 +1,6 @@
 //! The file before the lines.
+ghost use Rattle.std.specs.Prelude.{◌≤◌, IfOk, length};
+
 use sj_base::{NoMemory, Source};
 use sj_check::{Accepted, check};
 use sj_lang::File;
@@ -9,7 +11,7 @@ use std::alloc::Global;
 
 /// What stands before the line `%%talk`.
 #[derive(Drop)]
-pub(crate) enum Before {
+pub enum Before {
     File(Vec<u8>),
     /// A read failed.
     ReadFault,
@@ -20,7 +22,7 @@ pub(crate) enum Before {
 }
 
 /// The bytes before the line `%%talk`.
-pub(crate) fn file_before<S: Source>(
+pub fn file_before<S: Source>(
     alloc: Global,
     lines: &mut LineReader<S>,
 ) -> Result<Before, NoMemory> {
@@ -43,20 +45,14 @@ pub(crate) fn file_before<S: Source>(
     Ok(Before::NoTalk)
 }
 
-/// The file, where it is read.
-pub(crate) fn file_of(alloc: Global, bytes: &[u8]) -> Option<File> {
+/// The file, where it is accepted. Whoever wants to know why it isn't asks `checked`.
+pub fn accepted(alloc: Global, bytes: &[u8]) -> Option<Accepted> {
     if bytes.len() > Tokens::MOST_BYTES {
         return None;
     }
-    match parse_file(alloc, bytes) {
-        Ok(file) => Some(file),
-        Err(_) => None,
-    }
-}
-
-/// The file, where it is accepted.
-pub(crate) fn accepted(alloc: Global, bytes: &[u8]) -> Option<Accepted> {
-    let file = file_of(alloc, bytes)?;
+    let Ok(file) = parse_file(alloc, bytes) else {
+        return None;
+    };
     match check(alloc, file) {
         Ok(accepted) => Some(accepted),
         Err(_) => None,

@@ -5,6 +5,11 @@ mod code;
 mod files;
 mod local;
 mod output;
-mod words;
+mod parties;
+mod playing;
 
-pub use local::{LOOKS, seat_local};
+pub use files::{Before, accepted, file_before};
+pub use local::seat_local;
+pub use output::{NO_MEMORY, WRITE_FAULT, checked, said, said_no_party};
+pub use parties::party_named;
+pub use playing::{LOOKS, Played, play_lines};

@@ -1,34 +1,37 @@
-//! What is written at the end, and the status.
+//! What is written beside the answers to lines, and statuses.
+ghost use Rattle.std.specs.Prelude.{◌≡◌, ◌+◌};
+ghost use Rattle.sj_base.specs.Stream.{put_behind};
+ghost use Rattle.sj_semantics.specs.declared.Verdict.{Verdict};
+ghost use Rattle.sj_seat_local.specs.Played.{SaidSo};
+ghost use Rattle.sj_tool.specs.Texts.{verdict_status};
+
 use sj_base::{MemSource, NoMemory, Sink, write_all_of};
 use sj_lane::RingLinks;
-use sj_lang::File;
-use sj_seat_told::{TranscriptRefusal, put_transcript, stands, verdict};
-use sj_seats::SeatedWorld;
 use sj_semantics::Verdict;
+use sj_text::put;
 use sj_tool::sj;
 use sj_work::NoGate;
 use std::alloc::Global;
 use std::thread::Threads;
 
 /// The status out of memory.
-pub(crate) const NO_MEMORY: u8 = 11;
+pub const NO_MEMORY: u8 = 11;
 
 /// The status where a write failed.
-pub(crate) const WRITE_FAULT: u8 = 10;
+pub const WRITE_FAULT: u8 = 10;
 
-/// The status where a session was opened, so that there is no transcript yet.
-const OPENED: u8 = 13;
-
-/// Writes the text, and answers the status.
-pub(crate) fn said<K: Sink>(out: &mut K, text: &[u8], status: u8) -> u8 {
+/// Writes the text, and answers the status; that of a failed write where it can't be written.
+pub fn said<K: Sink>(out: &mut K, text: &[u8], status: u8) -> u8
+    ensures { SaidSo (K.written out.old) (K.written out.new) text.now status result }
+{
     match write_all_of(out, text) {
         Ok(()) => status,
         Err(_) => WRITE_FAULT,
     }
 }
 
-/// What `sj check` says of the file.
-pub(crate) fn checked<R: Threads + Sync, K: Sink>(
+/// Writes what `sj check` says of the file, and answers its status.
+pub fn checked<R: Threads + Sync, K: Sink>(
     rt: &R,
     alloc: Global,
     bytes: Vec<u8>,
@@ -51,28 +54,26 @@ pub(crate) fn checked<R: Threads + Sync, K: Sink>(
     )
 }
 
-/// Writes the transcript of the drained world of the file, and answers the status of its verdict.
-pub(crate) fn transcript<K: Sink>(
-    alloc: Global,
-    file: &File,
-    world: &SeatedWorld,
-    out: &mut K,
-) -> u8 {
-    let mut text = Vec::new(alloc);
-    match put_transcript(alloc, &mut text, file, world) {
-        Ok(()) => {}
-        Err(TranscriptRefusal::Opened) => {
-            return said(out, b"no transcript: a session was opened\n", OPENED);
-        }
-        Err(TranscriptRefusal::NoMemory) => return NO_MEMORY,
-    }
-    match stands(alloc, world) {
-        Ok(stands) => said(out, &text, status_of(verdict(&stands))),
+/// Writes that the file has no such party, and answers the status of that.
+pub fn said_no_party<K: Sink>(alloc: Global, word: &[u8], out: &mut K) -> u8 {
+    match no_party_text(alloc, word) {
+        Ok(text) => said(out, &text, 14),
         Err(NoMemory) => NO_MEMORY,
     }
 }
 
-fn status_of(verdict: Verdict) -> u8 {
+fn no_party_text(alloc: Global, word: &[u8]) -> Result<Vec<u8>, NoMemory> {
+    let mut text = Vec::new(alloc);
+    put(&mut text, b"no party ")?;
+    put(&mut text, word)?;
+    put(&mut text, b"\n")?;
+    Ok(text)
+}
+
+/// The status of the verdict, as `sj run` has it.
+pub(crate) fn status_of(verdict: Verdict) -> u8
+    ensures { result ≡ verdict_status verdict }
+{
     match verdict {
         Verdict::Done => 0,
         Verdict::Blocked => 6,

@@ -1,0 +1,42 @@
+-- What a run with seats reports at its end.
+use Rattle.std.specs.Prelude.{◌≡◌, ℕ, ◌<◌, Bool, List, length}
+use Rattle.sj_lang.specs.FileAt.{FileAt}
+use Rattle.sj_seat_laws.specs.SeatsWorld.{SeatsWorld}
+use Rattle.sj_seat_told.specs.Quiet.{HasOpenedNone, IsQuietOf}
+use Rattle.sj_seat_told.specs.Transcript.{IsUnopenedEnd}
+use Rattle.sj_seat_told.specs.declared.refusal.TranscriptRefusal.{TranscriptRefusal}
+use Rattle.sj_seat_told.specs.declared.refusal.TranscriptRefusal.TheVariants as refusals
+use Rattle.sj_seat_told_laws.specs.SeatsStands.{seats_verdict}
+use Rattle.sj_seat_told_laws.specs.SeatsTranscript.{seats_transcript}
+use Rattle.sj_seats.specs.Seated.{seats_of}
+use Rattle.sj_seats.specs.declared.seated.SeatedWorld.{SeatedWorld}
+use Rattle.sj_semantics.specs.declared.Verdict.{Verdict}
+
+-- the acts of the world's history lead to a plain world in which no session was opened, of which that is the transcript and the verdict
+pub record IsToldBy (file : FileAt) (w : SeatedWorld) (verdict : Verdict) (text : List ℕ) : Type 0 where
+  pub plain : SeatsWorld
+  pub is : IsUnopenedEnd file w plain
+  pub text : text ≡ seats_transcript file plain
+  pub verdict : verdict ≡ seats_verdict plain
+
+-- a world of the file that leaves nothing to do, in which code plays these parties
+pub record IsAtEnd (file : FileAt) (seats : ℕ → Bool) (w : SeatedWorld) : Type 0 where
+  pub quiet : IsQuietOf file w
+  pub seats : (p : ℕ) → p < length file.parties → seats_of w p ≡ seats p
+
+-- such a world reports that
+pub record IsEndTold (file : FileAt) (seats : ℕ → Bool) (verdict : Verdict) (text : List ℕ) : Type 0 where
+  pub world : SeatedWorld
+  pub end : IsAtEnd file seats world
+  pub told : IsToldBy file world verdict text
+
+-- in such a world a session was opened
+pub record HasOpened (file : FileAt) (seats : ℕ → Bool) : Type 0 where
+  pub world : SeatedWorld
+  pub end : IsAtEnd file seats world
+  pub opened : HasOpenedNone world → ⊥
+
+-- why nothing is reported
+abbrev pub IsUntold : FileAt → (seats : ℕ → Bool) → TranscriptRefusal → Type 0
+IsUntold file seats refusals.Opened = HasOpened file seats
+IsUntold file seats refusals.NoMemory = Unit {0}
