@@ -18,6 +18,7 @@ trial() {
 
 trial schedules.py 40 10 - 200 50
 trial talks.py 1000 - 2000
+trial seats.py 40 - 2000
 trial sockets.py 200 - 2000
 trial memory.py 60 - 2000
 trial streams.py 40 - 500

@@ -82,6 +82,9 @@ def any_bytes(rng, names):
 def is_answered(got, lines):
     """Whether each line up to the first `leave` has its answer, and a transcript stands after them."""
     status, out = got
+    if not out.startswith(b"go\n"):
+        return False
+    out = out[3:]
     count = lines.index(b"leave") + 1 if b"leave" in lines else len(lines)
     said = out.split(b"\n", count)
     if len(said) <= count or status not in (0, 6, 7, 13):
@@ -105,7 +108,7 @@ def one(number, tally):
         words = [name.decode(), "--local", "--patience", "1000000"]
         lines, wanted = played(rng, text, name, log)
         got = answer(words, talk(text, lines), SJSEAT)
-        said = b"".join(line + b"\n" for line in wanted)
+        said = b"go\n" + b"".join(line + b"\n" for line in wanted)
         if got[0] == 13:
             good = got[1] == said + NONE + b"\n" and OPENS.search(text) is not None
         else:

@@ -1,9 +1,6 @@
 //! The file before the lines.
-ghost use Rattle.std.specs.Prelude.{◌≤◌, IfOk, length};
-
 use sj_base::{NoMemory, Source};
 use sj_check::{Accepted, check};
-use sj_lang::File;
 use sj_party::parse_file;
 use sj_proto::Tokens;
 use sj_seat_lines::{LineReader, Next};

@@ -1,7 +1,5 @@
 //! What is written beside the answers to lines, and statuses.
-ghost use Rattle.std.specs.Prelude.{◌≡◌, ◌+◌};
-ghost use Rattle.sj_base.specs.Stream.{put_behind};
-ghost use Rattle.sj_semantics.specs.declared.Verdict.{Verdict};
+ghost use Rattle.std.specs.Prelude.{◌≡◌};
 ghost use Rattle.sj_seat_local.specs.Played.{SaidSo};
 ghost use Rattle.sj_tool.specs.Texts.{verdict_status};
 

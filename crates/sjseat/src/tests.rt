@@ -42,7 +42,10 @@ fn known_words(rt: HostRuntime) -> Result<(), Fail> {
 #[test]
 fn unknown_words(rt: HostRuntime) -> Result<(), Fail> {
     for words in UNKNOWN {
-        assert!(rt; party_and_patience(rt.alloc(), words)?.is_none(), "{words:?}");
+        assert!(rt;
+            party_and_patience(rt.alloc(), words)?.is_none(),
+            "{words:?}"
+        );
     }
     Ok(())
 }
