@@ -1,20 +1,21 @@
 //! `sjseat`: a party of a file played by lines. `sjseat PARTY --local` plays it beside the others,
-//! which run on threads in the same process.
+//! which run on threads in the same process; `sjseat PARTY --run ID` over the streams of a server.
 #![tactic(auto)]
 
 mod line;
+mod remote;
+mod statuses;
 mod words;
 
 use sj_base::{NoMemory, ReadSource, WriteSink};
+use remote::seat_remote;
 use sj_seat_local::{NO_MEMORY, said, seat_local};
 use std::env;
 use std::process::ExitCode;
-use words::words_in;
+use words::{How, words_in};
 
-#[cfg(test)]
-mod tests;
 
-const USAGE: &[u8] = b"usage: sjseat PARTY --local [--patience N]\n";
+const USAGE: &[u8] = b"usage: sjseat PARTY --local [--patience N], or\n       sjseat PARTY --run ID [--server HOST:PORT] [--wait SECONDS]\n";
 
 /// The words after the program's name.
 fn own_words(rt: &HostRuntime) -> Result<Vec<String>, NoMemory> {
@@ -37,7 +38,13 @@ fn main(rt: HostRuntime) -> ExitCode {
         Ok(Some(words)) => {
             let src = ReadSource::new(rt.stdin());
             let party = words.party.as_bytes();
-            ExitCode::from(seat_local(&rt, rt.alloc(), party, words.patience, src, out))
+            let status = match &words.how {
+                How::Local(patience) => {
+                    seat_local(&rt, rt.alloc(), party, *patience, src, out)
+                }
+                How::Remote(remote) => seat_remote(&rt, party, remote, src, out),
+            };
+            ExitCode::from(status)
         }
         Ok(None) => ExitCode::from(said(&mut out, USAGE, 1)),
         Err(NoMemory) => ExitCode::from(NO_MEMORY),
