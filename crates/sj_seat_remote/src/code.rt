@@ -10,6 +10,7 @@ use sj_seat_lines::{Heard, LineReader, Name, Next, Party, first_names};
 use sj_seat_run::{Answer, Play};
 use sj_seat_texts::Texts;
 use std::alloc::Global;
+use std::mem;
 
 /// The most bytes of a line that are kept. A longer one has no form.
 const MOST_LINE: usize = 4097;
@@ -154,8 +155,7 @@ impl<'a, S: Source + Drop, K: Sink + Drop> Code<'a, S, K> {
         let Ok(texts) = Texts::of(self.alloc, &self.file.names.texts) else {
             return Err(Over::NoMemory);
         };
-        let mut names = Vec::new(self.alloc);
-        names.append(&mut self.names);
+        let names = mem::replace(&mut self.names, Vec::new(self.alloc));
         self.party = Some(Party::new(self.alloc, self.file, texts, names, u32::MAX));
         self.say(b"go\n")
     }

@@ -42,7 +42,7 @@ fn main(rt: HostRuntime) -> ExitCode {
                 How::Local(patience) => {
                     seat_local(&rt, rt.alloc(), party, *patience, src, out)
                 }
-                How::Remote(remote) => seat_remote(&rt, party, remote, src, out),
+                How::Remote(remote) => seat_remote(&rt, &rt, party, remote, src, out),
             };
             ExitCode::from(status)
         }

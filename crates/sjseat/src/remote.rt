@@ -18,6 +18,7 @@ use sj_seat_local::{
 use sj_seat_remote::{Code, Over};
 use std::env::VarError;
 use std::net::{OpenStream, TcpStream};
+use std::thread::Threads;
 use std::time::Duration;
 use std::{env, io, thread};
 
@@ -122,8 +123,9 @@ fn play_to_end<S: Source + Drop, K: Sink + Drop>(
 
 /// Plays the party that the word names, by the lines after the file and a line `%%talk`. Answers the
 /// status.
-pub(crate) fn seat_remote<S: Source + Drop, K: Sink + Drop>(
+pub(crate) fn seat_remote<R: Threads + Sync, S: Source + Drop, K: Sink + Drop>(
     rt: &HostRuntime,
+    threads: &R,
     word: &[u8],
     remote: &Remote,
     src: S,
@@ -140,7 +142,7 @@ pub(crate) fn seat_remote<S: Source + Drop, K: Sink + Drop>(
         Err(NoMemory) => return NO_MEMORY,
     };
     let Some(accepted) = accepted(alloc, &bytes) else {
-        return checked(rt, alloc, bytes, &mut out);
+        return checked(threads, alloc, bytes, &mut out);
     };
     let Some(party) = party_named(accepted.file(), word) else {
         return said_no_party(alloc, word, &mut out);
