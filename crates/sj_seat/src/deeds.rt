@@ -22,7 +22,7 @@ use sj_base::{EndId, Msg};
 use sj_lane::{InLane, OutLane};
 use sj_node::{Call, Halt};
 use sj_table::Spot;
-use sj_work::{Gate, Stop, Worker, work};
+use sj_work::{Gate, Stop, Worker, work_on};
 
 /// Takes what came, and pushes what waits, until so many turns in a row have no event.
 pub(crate) fn deliver_all<O: OutLane, I: InLane, G: Gate>(
@@ -40,7 +40,7 @@ pub(crate) fn deliver_all<O: OutLane, I: InLane, G: Gate>(
     ensures counts { Counted O.OutLane I.InLane worker.old worker.new }
     ensures stop { stop_of worker.new ≡ Some result }
 {
-    work(worker, looks, gate)
+    work_on(worker, looks, gate)
 }
 
 /// Does the call, the guarded one of the party, where the node can. Whatever it refuses, the node is

@@ -94,6 +94,28 @@ pub fn work<O: OutLane, I: InLane, G: Gate>(worker: &mut Worker<O, I>, looks: u3
     }
 }
 
+/// The same, where a finished node is no reason to stop before the first turn. So a party that is
+/// played from outside takes what comes, though it holds no end yet.
+pub fn work_on<O: OutLane, I: InLane, G: Gate>(
+    worker: &mut Worker<O, I>,
+    looks: u32,
+    gate: &G,
+) -> Stop
+    ensures worked { Worked O.OutLane I.InLane looks worker.old worker.new }
+    ensures stop { stop_of worker.new ≡ Some result }
+{
+    if let Some(stop) = kept(worker.stop()) {
+        return stop;
+    }
+    worker.looks = 0;
+    worker.answer = None;
+    go(worker, looks, gate);
+    match worker.stop() {
+        Some(stop) => stop,
+        None => unreachable!(),
+    }
+}
+
 // The stop that stays, if any.
 fn kept(stop: Option<Stop>) -> Option<Stop>
     ensures { result ≡ kept_stop stop }
