@@ -28,3 +28,4 @@ pub use accepted::Accepted;
 pub use checker::check;
 pub use limits::is_within_limits;
 pub use refusal::CheckRefusal;
+pub use rules::CheckRule;

@@ -11,6 +11,7 @@ use Rattle.sj_grammar.specs.Faults.{Stuck}
 use Rattle.sj_acceptance.specs.Accepted.{IsAccepted}
 use Rattle.sj_acceptance.specs.Faults.{first_fault}
 use Rattle.sj_acceptance.specs.FileTests.{tests_of}
+use Rattle.sj_check.specs.Rules.{number_of}
 use Rattle.sj_semantics.specs.Lines.{line_of}
 use Rattle.sj_explain.specs.declared.answers.CheckAnswer.{CheckAnswer}
 use Rattle.sj_explain.specs.declared.answers.CheckAnswer.TheVariants.{Syntax, Check, Accepted}
@@ -32,7 +33,7 @@ pub record IsRight (text : List ℕ) (parties sessions : ℕ) : Type 0 where
 -- what reading the text and checking its file come to
 abbrev pub IsAnswer : List ℕ → CheckAnswer → Type 0
 IsAnswer text (Syntax fault) = Stuck file_layer limits 0 (start text [] []) file_due fault
-IsAnswer text (Check rule line) = IsFaulty text rule line
+IsAnswer text (Check rule line) = IsFaulty text (number_of rule) line
 IsAnswer text (Accepted parties sessions) = IsRight text parties sessions
 
 abbrev pub rule_number : Rule → ℕ
@@ -52,7 +53,7 @@ abbrev pub answer_line : CheckAnswer → List ℕ
 answer_line (Syntax fault) =
     let place = decimal fault.line ++ (codes ":" ++ decimal fault.column) in
     line_of (codes "syntax" ∷ (codes "P" ++ decimal (rule_number fault.rule)) ∷ codes "at" ∷ place ∷ [])
-answer_line (Check rule line) = line_of (codes "check" ∷ (codes "C" ++ decimal rule) ∷ codes "at" ∷ decimal line ∷ [])
+answer_line (Check rule line) = line_of (codes "check" ∷ (codes "C" ++ decimal (number_of rule)) ∷ codes "at" ∷ decimal line ∷ [])
 answer_line (Accepted parties sessions) =
     line_of (codes "accepted" ∷ codes "parties" ∷ decimal parties ∷ codes "sessions" ∷ decimal sessions ∷ [])
 

@@ -3,6 +3,7 @@
 use crate::marks::{Mark, Part};
 use crate::pieces::{Piece, put_pieces};
 use sj_base::NoMemory;
+use sj_check::CheckRule;
 use sj_lang::{File, Proto};
 use std::alloc::{AllocError, AllocFailed, Global};
 
@@ -24,7 +25,7 @@ pub(crate) struct Site {
 /// A fault, with its place and what was known there.
 #[derive(Drop)]
 pub(crate) struct Finding {
-    pub rule: u8,
+    pub rule: CheckRule,
     pub site: Site,
     pub mark: Mark,
     pub other: Option<Mark>,
@@ -79,7 +80,7 @@ impl Seen {
 
 impl Context<'_> {
     /// The fault of that rule, and what was known in these pieces.
-    pub fn stop(&self, rule: u8, site: Site, mark: Mark, pieces: &[Piece<'_>]) -> Stop {
+    pub fn stop(&self, rule: CheckRule, site: Site, mark: Mark, pieces: &[Piece<'_>]) -> Stop {
         let mut knew = Vec::new(self.alloc);
         match put_pieces(self.alloc, &mut knew, &self.file.names, pieces) {
             Ok(()) => stop_with(rule, site, mark, knew),
@@ -109,7 +110,7 @@ impl Context<'_> {
 }
 
 /// The fault of that rule, and what was known.
-pub(crate) fn stop_with(rule: u8, site: Site, mark: Mark, knew: Vec<u8>) -> Stop {
+pub(crate) fn stop_with(rule: CheckRule, site: Site, mark: Mark, knew: Vec<u8>) -> Stop {
     Stop::Found(Finding {
         rule,
         site,

@@ -5,11 +5,8 @@ use crate::env::Env;
 use crate::joins::put_variables;
 use crate::marks::Mark;
 use crate::pieces::Piece::{Said, Scalar as KindName, Word};
+use sj_check::CheckRule;
 use sj_lang::{Expr, Op, Scalar};
-
-const NOT_THERE: u8 = 5;
-
-const OTHER_KIND: u8 = 7;
 
 /// The kind of an expression that begins with that token of its statement.
 pub(crate) fn kind_of(
@@ -53,7 +50,7 @@ fn kind_from(op: Op) -> Scalar {
 fn tell_unknown(context: Context<'_>, env: &Env, site: Site, from: usize, name: u16) -> Stop {
     let mut knew = Vec::new(context.alloc);
     match put_variables(context, &mut knew, env, name) {
-        Ok(()) => stop_with(NOT_THERE, site, Mark::Word(from, name), knew),
+        Ok(()) => stop_with(CheckRule::NotThere, site, Mark::Word(from, name), knew),
         Err(_) => Stop::NoMemory,
     }
 }
@@ -70,7 +67,7 @@ pub(crate) fn want(
         return Ok(());
     }
     Err(context.stop(
-        OTHER_KIND,
+        CheckRule::OtherKind,
         site,
         Mark::Value(from),
         &[

@@ -4,17 +4,14 @@ use crate::context::{Context, Finding, Seen, Site, Stop, stop_with};
 use crate::env::Env;
 use crate::joins::put_live;
 use crate::marks::{Mark, Part};
-use crate::names::{NAME_IN_USE, no_party, no_protocol};
+use crate::names::{no_party, no_protocol};
 use crate::openings::meet_openings;
 use crate::pieces::Piece::{Item as One, Number, Place, Said, Word};
 use crate::walk::block;
 use sj_base::NoMemory;
+use sj_check::CheckRule;
 use sj_lang::{Arms, Connect, EndDecl, File, Item, Kind, Party, Proto, copied, meet_item, meets};
 use std::alloc::Global;
-
-const DO_NOT_MEET: u8 = 4;
-
-const LEFT_OPEN: u8 = 12;
 
 /// The first fault of the file, as far as it is one on that line.
 pub(crate) fn find_fault(
@@ -58,7 +55,7 @@ fn protocols(context: Context<'_>, line: u32) -> Result<(), Stop> {
                 Word(label),
                 Said(b" is the label of an earlier arm of the same choice"),
             ];
-            return Err(context.stop(NAME_IN_USE, site, Mark::Name(2, labels), &what));
+            return Err(context.stop(CheckRule::NameInUse, site, Mark::Name(2, labels), &what));
         }
     }
     Ok(())
@@ -72,7 +69,7 @@ fn named_before(context: Context<'_>, site: Site, token: usize, name: u16, line:
         Word(name),
         Said(b", too"),
     ];
-    context.stop(NAME_IN_USE, site, Mark::Token(token), &what)
+    context.stop(CheckRule::NameInUse, site, Mark::Token(token), &what)
 }
 
 // The first label that stands twice in one choice; how many labels stand before it.
@@ -141,7 +138,7 @@ fn connects(context: Context<'_>, line: u32) -> Result<(), Stop> {
                 Word(connect.second.name),
                 Said(b" is the first end of this connection"),
             ];
-            return Err(context.stop(NAME_IN_USE, site, Mark::Token(6), &what));
+            return Err(context.stop(CheckRule::NameInUse, site, Mark::Token(6), &what));
         }
         check_unused(context, site, 6, i, connect.second)?;
         if !meets(first, second) {
@@ -184,7 +181,7 @@ fn check_unused(
                 Said(b" has an end of that name by the connection on line "),
                 Number(u64::from(earlier.line)),
             ];
-            return Err(context.stop(NAME_IN_USE, site, Mark::Token(token), &what));
+            return Err(context.stop(CheckRule::NameInUse, site, Mark::Token(token), &what));
         }
     }
     Ok(())
@@ -227,7 +224,7 @@ fn parted_items<'x>(
         Said(b" and "),
         One(other),
     ];
-    context.stop(DO_NOT_MEET, site, Mark::Token(3), &what)
+    context.stop(CheckRule::DoNotMeet, site, Mark::Token(3), &what)
 }
 
 fn tell_unequal<'x>(context: Context<'_>, site: Site, first: &'x Proto, second: &'x Proto) -> Stop {
@@ -238,7 +235,7 @@ fn tell_unequal<'x>(context: Context<'_>, site: Site, first: &'x Proto, second: 
         Place(second),
         Said(b", of which one is longer"),
     ];
-    context.stop(DO_NOT_MEET, site, Mark::Token(3), &what)
+    context.stop(CheckRule::DoNotMeet, site, Mark::Token(3), &what)
 }
 
 /// The first items of the two that don't meet.
@@ -263,7 +260,7 @@ fn body(context: Context<'_>, seen: &mut Seen, site: Site, party: &Party) -> Res
     }
     let mut knew = Vec::new(context.alloc);
     put_live(context, &mut knew, &env)?;
-    Err(stop_with(LEFT_OPEN, site, Mark::Token(1), knew))
+    Err(stop_with(CheckRule::LeftOpen, site, Mark::Token(1), knew))
 }
 
 // The ends that a connection gives the party.

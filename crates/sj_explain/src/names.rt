@@ -6,15 +6,9 @@ use crate::env::Env;
 use crate::marks::Mark;
 use crate::pieces::Piece::{Place, Said, Scalar as KindName, Word};
 use crate::pieces::put_pieces;
-use crate::statements::OTHER_KIND;
 use sj_base::NoMemory;
+use sj_check::CheckRule;
 use sj_lang::Scalar;
-
-pub(crate) const NO_PROTOCOL: u8 = 1;
-
-pub(crate) const NO_PARTY: u8 = 2;
-
-pub(crate) const NAME_IN_USE: u8 = 3;
 
 /// The name is one of no end and of no variable.
 pub(crate) fn free(
@@ -34,7 +28,7 @@ pub(crate) fn free(
                 KindName(kind),
                 Said(b" here"),
             ];
-            Err(context.stop(NAME_IN_USE, site, Mark::Token(token), &what))
+            Err(context.stop(CheckRule::NameInUse, site, Mark::Token(token), &what))
         }
     }
 }
@@ -55,7 +49,7 @@ pub(crate) fn free_of_ends(
                 Said(b" is a live end here, ahead of it "),
                 Place(place),
             ];
-            Err(context.stop(NAME_IN_USE, site, Mark::Token(token), &what))
+            Err(context.stop(CheckRule::NameInUse, site, Mark::Token(token), &what))
         }
     }
 }
@@ -80,7 +74,7 @@ pub(crate) fn same_kind(
                 Said(b" here, and would get kind "),
                 KindName(kind),
             ];
-            Err(context.stop(OTHER_KIND, site, Mark::Token(token), &what))
+            Err(context.stop(CheckRule::OtherKind, site, Mark::Token(token), &what))
         }
     }
 }
@@ -101,7 +95,7 @@ pub(crate) fn no_protocol(context: Context<'_>, site: Site, token: usize) -> Sto
             return Stop::NoMemory;
         }
     }
-    stop_with(NO_PROTOCOL, site, Mark::Token(token), knew)
+    stop_with(CheckRule::NoProtocol, site, Mark::Token(token), knew)
 }
 
 /// No party has the name that is that token; which there are.
@@ -112,7 +106,7 @@ pub(crate) fn no_party(context: Context<'_>, site: Site, token: usize) -> Stop {
             return Stop::NoMemory;
         }
     }
-    stop_with(NO_PARTY, site, Mark::Token(token), knew)
+    stop_with(CheckRule::NoParty, site, Mark::Token(token), knew)
 }
 
 fn put_listed(

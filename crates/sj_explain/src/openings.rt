@@ -4,9 +4,8 @@ use crate::context::{Context, Seen, Site, Stop};
 use crate::marks::{Mark, Part};
 use crate::pieces::Piece::{Number, Place, Said, Word};
 use sj_base::NoMemory;
+use sj_check::CheckRule;
 use sj_lang::{Deed, Party, Proto, Stmt, StmtArm, meets};
-
-const ACCEPT_UNMET: u8 = 15;
 
 // A request or an accept, with its protocol and the name of the other party.
 #[derive(Clone, Copy)]
@@ -81,7 +80,7 @@ fn tell_unmet<'x>(
         Said(b" is "),
         Place(other),
     ];
-    context.stop(ACCEPT_UNMET, accept.site, Mark::Token(2), &what)
+    context.stop(CheckRule::AcceptUnmet, accept.site, Mark::Token(2), &what)
 }
 
 // The requests and accepts of a block, in order.

@@ -10,19 +10,8 @@ use crate::pieces::Piece::{Place, Said, Scalar as KindName, Word};
 use crate::pieces::{Piece, put_pieces};
 use crate::places::copied_arm;
 use crate::scalars::carries;
+use sj_check::CheckRule;
 use sj_lang::{Expr, Item, Kind, Proto, Scalar, copied, same, stands_for};
-
-pub(crate) const NOT_THERE: u8 = 5;
-
-pub(crate) const OTHER_ACTION: u8 = 6;
-
-pub(crate) const OTHER_KIND: u8 = 7;
-
-const NO_LABEL: u8 = 8;
-
-const CLOSED_EARLY: u8 = 11;
-
-const NOT_TO_DELEGATE: u8 = 13;
 
 /// What is ahead of the end that token of the statement names.
 pub(crate) fn live<'a>(
@@ -34,7 +23,7 @@ pub(crate) fn live<'a>(
 ) -> Result<&'a Proto, Stop> {
     match env.place(end) {
         Some(place) => Ok(place),
-        None => Err(tell_dead(context, env, NOT_THERE, site, Mark::Token(token))),
+        None => Err(tell_dead(context, env, CheckRule::NotThere, site, Mark::Token(token))),
     }
 }
 
@@ -48,7 +37,7 @@ pub(crate) fn other_action<'x>(
     wants: &'x [u8],
 ) -> Stop {
     context.stop(
-        OTHER_ACTION,
+        CheckRule::OtherAction,
         site,
         Mark::Token(token),
         &[
@@ -85,7 +74,7 @@ fn other_kind(
     {
         return Stop::NoMemory;
     }
-    stop_with(OTHER_KIND, site, mark, knew)
+    stop_with(CheckRule::OtherKind, site, mark, knew)
 }
 
 pub(crate) fn send(
@@ -119,7 +108,7 @@ pub(crate) fn delegate(
     let given = live(context, env, site, 2, sent)?;
     if end == sent {
         let what = [Word(sent), Said(b" is the carrier itself")];
-        return Err(context.stop(NOT_TO_DELEGATE, site, Mark::Token(2), &what));
+        return Err(context.stop(CheckRule::NotToDelegate, site, Mark::Token(2), &what));
     }
     let Some(Item::Send(kind)) = place.items.first() else {
         return Err(other_action(context, site, 1, end, place, b"`!<..>`"));
@@ -129,7 +118,7 @@ pub(crate) fn delegate(
         return Err(other_kind(context, site, Mark::Token(2), &what, end, place));
     };
     if given.items.is_empty() {
-        return Err(context.stop(NOT_TO_DELEGATE, site, Mark::Token(2), &what));
+        return Err(context.stop(CheckRule::NotToDelegate, site, Mark::Token(2), &what));
     }
     if !stands_for(given, carried) {
         return Err(other_kind(context, site, Mark::Token(2), &what, end, place));
@@ -224,7 +213,7 @@ pub(crate) fn select(
     };
     let Some(arm) = copied_arm(context.alloc, place, choice, label)? else {
         let what = [Said(b"ahead of "), Word(end), Said(b" is "), Place(place)];
-        return Err(context.stop(NO_LABEL, site, Mark::Token(2), &what));
+        return Err(context.stop(CheckRule::NoLabel, site, Mark::Token(2), &what));
     };
     env.put(end, arm)?;
     Ok(())
@@ -248,7 +237,7 @@ pub(crate) fn close(context: Context<'_>, env: &mut Env, site: Site, end: u16) -
     let place = live(context, env, site, 1, end)?;
     if !place.items.is_empty() {
         let what = [Said(b"ahead of "), Word(end), Said(b" is "), Place(place)];
-        return Err(context.stop(CLOSED_EARLY, site, Mark::Token(1), &what));
+        return Err(context.stop(CheckRule::ClosedEarly, site, Mark::Token(1), &what));
     }
     env.remove(end);
     Ok(())

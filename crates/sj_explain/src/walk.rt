@@ -10,13 +10,8 @@ use crate::places::{copied_arm, copied_turn};
 use crate::statements::{
     close, delegate, let_be, live, open, other_action, select, send, take_end, take_value,
 };
+use sj_check::CheckRule;
 use sj_lang::{Arms, Deed, Expr, Item, Proto, Scalar, Stmt, StmtArm};
-
-const ARMS_DIFFER: u8 = 9;
-
-const TURN_DIFFERS: u8 = 10;
-
-const OTHER_ARMS: u8 = 14;
 
 /// Statements in order.
 #[cycle(explaining)]
@@ -144,7 +139,7 @@ fn turn(
         enter(context, &mut inner, *end)?;
     }
     block(context, &mut inner, seen, body)?;
-    compare(context, TURN_DIFFERS, site, env, &inner)?;
+    compare(context, CheckRule::TurnDiffers, site, env, &inner)?;
     for end in ends {
         env.pass(context.alloc, *end)?;
     }
@@ -168,7 +163,7 @@ fn copy_behind_test(context: Context<'_>, env: &Env, site: Site, test: &Expr) ->
 
 // What both blocks of an `if` leave.
 fn join(context: Context<'_>, env: &mut Env, site: Site, other: &Env) -> Result<(), Stop> {
-    compare(context, ARMS_DIFFER, site, env, other)?;
+    compare(context, CheckRule::ArmsDiffer, site, env, other)?;
     env.keep_common(other);
     Ok(())
 }
@@ -199,7 +194,7 @@ fn branch(
         let mut inner = at_arm(context, env, end, arm.label)?;
         block(context, &mut inner, seen, &arm.body)?;
         if told.is_ok() {
-            told = compare(context, ARMS_DIFFER, site, &left, &inner);
+            told = compare(context, CheckRule::ArmsDiffer, site, &left, &inner);
         }
         left.keep_common(&inner);
     }
@@ -210,7 +205,7 @@ fn branch(
 
 fn other_labels(context: Context<'_>, site: Site, end: u16, place: &Proto) -> Stop {
     context.stop(
-        OTHER_ARMS,
+        CheckRule::OtherArms,
         site,
         Mark::Token(0),
         &[Said(b"ahead of "), Word(end), Said(b" is "), Place(place)],
