@@ -2,8 +2,7 @@
 use Rattle.std.specs.Prelude.{◌≡◌, ℕ, Bool, true, List, [], ◌∷◌, ◌++◌, Some, codes, decimal, length}
 use Rattle.sj_lang.specs.FileAt.{FileAt}
 use Rattle.sj_lang.specs.Limits.{limits}
-use Rattle.sj_grammar.specs.declared.tokens.Rule.{Rule}
-use Rattle.sj_grammar.specs.declared.tokens.Rule.TheVariants.{P1, P2, P3, P4, P5}
+use Rattle.sj_grammar.specs.Rules.{rule_number}
 use Rattle.sj_grammar.specs.Positions.{start}
 use Rattle.sj_grammar.specs.Files.{IsFile}
 use Rattle.sj_grammar.specs.FileDues.{file_layer, file_due}
@@ -35,13 +34,6 @@ abbrev pub IsAnswer : List ℕ → CheckAnswer → Type 0
 IsAnswer text (Syntax fault) = Stuck file_layer limits 0 (start text [] []) file_due fault
 IsAnswer text (Check rule line) = IsFaulty text (number_of rule) line
 IsAnswer text (Accepted parties sessions) = IsRight text parties sessions
-
-abbrev pub rule_number : Rule → ℕ
-rule_number P1 = 1
-rule_number P2 = 2
-rule_number P3 = 3
-rule_number P4 = 4
-rule_number P5 = 5
 
 abbrev pub status_of : CheckAnswer → ℕ
 status_of (Syntax fault) = 4

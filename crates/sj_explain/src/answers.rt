@@ -1,10 +1,10 @@
 //! What is answered to the text of a file.
 ghost use Rattle.std.specs.Prelude.{◌≡◌, IfOk};
-ghost use Rattle.sj_explain.specs.Answers.{answer_line, rule_number, status_of};
+ghost use Rattle.sj_explain.specs.Answers.{answer_line, status_of};
 
 use sj_base::NoMemory;
 use sj_check::CheckRule;
-use sj_proto::{Fault, Rule};
+use sj_proto::Fault;
 use sj_text::{put, put_number};
 use std::alloc::Global;
 
@@ -57,7 +57,7 @@ fn syntax_text(alloc: Global, fault: Fault) -> Result<Vec<u8>, NoMemory>
 {
     let mut text = Vec::new(alloc);
     put(&mut text, b"syntax P")?;
-    put_number(&mut text, number_of(fault.rule))?;
+    put_number(&mut text, u64::from(fault.rule.number()))?;
     put(&mut text, b" at ")?;
     put_number(&mut text, u64::from(fault.line))?;
     put(&mut text, b":")?;
@@ -88,16 +88,4 @@ fn counts_text(alloc: Global, parties: usize, sessions: usize) -> Result<Vec<u8>
     put_number(&mut text, sessions as u64)?;
     put(&mut text, b"\n")?;
     Ok(text)
-}
-
-fn number_of(rule: Rule) -> u64
-    ensures { result ≡ rule_number rule }
-{
-    match rule {
-        Rule::P1 => 1,
-        Rule::P2 => 2,
-        Rule::P3 => 3,
-        Rule::P4 => 4,
-        Rule::P5 => 5,
-    }
 }

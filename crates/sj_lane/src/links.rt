@@ -10,11 +10,14 @@ use crate::lane::{InLane, Lanes, OutLane};
 use sj_base::NoMemory;
 use sj_end::Frame;
 use std::alloc::Global;
+use thiserror::Error;
 
 /// Why there are no lanes.
-#[derive(Clone, Copy, Debug, PartialEq, Eq)]
+#[derive(Clone, Copy, Debug, PartialEq, Eq, Error)]
 pub enum MakeRefusal {
+    #[error("link fault")]
     Fault,
+    #[error("no memory")]
     NoMemory,
 }
 
