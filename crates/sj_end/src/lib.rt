@@ -12,7 +12,7 @@ mod room;
 mod wire;
 
 pub use end::{End, other_end};
-pub use limits::CLOCK_END;
+pub use limits::{CLOCK_END, MAX_CONN};
 pub use misfit::Misfit;
 pub use note::{Entry, Event, Line, Note, note_of};
 pub use record::{Closed, Deferred, Expected, Held, Parked, Signalled};

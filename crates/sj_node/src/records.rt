@@ -12,11 +12,10 @@ ghost use Rattle.sj_semantics.specs.Program.{Program};
 ghost use Rattle.sj_table.specs.declared.table.Spot.{Spot};
 
 use crate::DeliverRefusal;
-use crate::limits::MAX_CONN;
 use crate::signals::{pass_parked, signal_fits};
 use crate::slots::{Old, slot_of};
 use sj_base::EndId;
-use sj_end::{Parked, Post, Signalled};
+use sj_end::{MAX_CONN, Parked, Post, Signalled};
 use sj_handover::signal;
 use std::alloc::Global;
 
