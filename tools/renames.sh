@@ -83,10 +83,25 @@ def definitions(crate, old, new):
         if t != text:
             open(p, "w").write(t)
 
-ENTRIES = {}
+# a folder of proofs
+def proofs(crate, old, new):
+    a, b = "crates/%s/proofs/%s" % (crate, old), "crates/%s/proofs/%s" % (crate, new)
+    if os.path.exists(a):
+        subprocess.run(["git", "mv", a, b], check=True)
+
+# what pages say
+def pages(paths, **named):
+    change(files(paths), named)
+
+ENTRIES, LATER = {}, {}
 
 def entry(f):
     ENTRIES[f.__name__] = f
+    return f
+
+# of a crate that others change; by its name alone
+def later(f):
+    LATER[f.__name__] = f
     return f
 
 # a row of a file's table is no stop
@@ -96,6 +111,93 @@ def rows():
         add_stop="add_row", stop_more="row_more", old_stop="old_row", loop_stop="loop_row")
     imported("sj_table", r"proofs\.GrownLemmas", r"^crates/sj_table/proofs/GrownLemmas\.antt$", Kept="PlacesStay")
 
+# a line of a text has a number; a line of a log is another thing
+@entry
+def line_numbers():
+    imported("sj_grammar", r"specs\.Reading", r"^crates/sj_grammar/specs/Reading\.antt$",
+        line_at="line_number", column_at="column_number")
+
+# what is awaited of an expression is no frame
+@entry
+def operands():
+    imported("sj_expr", r"proofs\.ShapeLemmas", r"^crates/sj_expr/proofs/ShapeLemmas\.antt$", Frame="OpenOperand")
+
+# the words of a call are no line of a log
+@entry
+def arguments():
+    imported("sj_command", r"specs\.Task", r"^crates/sj_command/specs/Task\.antt$",
+        LineAt="ArgumentsAt", line_at="arguments_at", line_with="arguments_with")
+
+# a statement in a machine's list is no party
+@entry
+def code_nodes():
+    words("sj_machine", Node="CodeNode")
+
+# an end of the plain world isn't one of the core
+@entry
+def plain_ends():
+    words("sj_plain", End="PlainEnd")
+    imported("sj_plain", r"(?:specs\.declared\.)?kept\.Kept", r"^crates/sj_plain/(src/(kept|lib)\.rt|specs/Kept\.antt)$", Kept="SharedFile")
+
+# the nodes of a graph
+@entry
+def vertices():
+    words("sj_forest_laws", Node="Vertex", node="vertex", nodes="vertices", is_node="is_vertex", nodes_of="vertices_of")
+    imported("sj_forest_laws", r"proofs\.BlockedLemmas", r"^crates/sj_forest_laws/proofs/BlockedLemmas\.antt$", Kept="RunInvariant")
+
+# the file that holds frames has their name
+@entry
+def frames():
+    module("sj_end", "wire", "frames")
+    pages(r"^docs/READING\.md$")
+
+# a Carry or a Fin comes
+@entry
+def carries():
+    module("sj_node", "messages", "carries")
+
+# why a node halts is no stop of a worker; what an old record is
+@entry
+def halts():
+    words("sj_node", Kept="OldKind")
+    imported("sj_node", r"specs\.Node", r"^crates/sj_node/(specs/Node\.antt|src/halts\.rt)$", stop_of="node_halt")
+    proofs("sj_node", "halts/stop_of", "halts/node_halt")
+
+# the fields of a frame
+@entry
+def fields():
+    words("sj_lane", Mark="FrameFields", EndMark="EndFields", BodyMark="BodyFields")
+
+# the lines that a picture shows
+@entry
+def drawn():
+    words("sj_draw", LineAt="DrawnLineAt", line_at="drawn_line_at")
+
+# the words that are underlined; how a walk ends
+@entry
+def underlines():
+    words("sj_explain", Mark="Underline", mark="underline", Stop="WalkEnd")
+
+# a party that forwards
+@entry
+def forwarders():
+    module("sj_forward", "desk", "forwarder")
+    module("sj_forward", "desk_world", "forwarder_world")
+    definitions("sj_forward", "Desk", "Forwarder")
+    definitions("sj_forward", "DeskWorld", "ForwarderWorld")
+    words("sj_forward", "sj_forward_cases", Desk="Forwarder", desk="forwarder", desks="forwarders",
+        DeskWorld="ForwarderWorld", desk_world="forwarder_world", desk_at="forwarder_at", desks_in="forwarders_in",
+        DeskStays="ForwarderStays", desk_written="forwarder_written", desk_recorded="forwarder_recorded",
+        first_desks="first_forwarders", first_desk="first_forwarder", desk_parked="forwarder_parked",
+        one_desk="one_forwarder", desk_first="forwarder_first",
+        DeskLemmas="ForwarderLemmas", DeskWorldLemmas="ForwarderWorldLemmas", Frame="ForwardFrame")
+
+# the first line of that text
+@entry
+def found_lines():
+    imported("sj_log", r"(?:proofs\.)?parts", r"^crates/sj_log/src/(parts|lib)\.rt$", line_at="find_line")
+    proofs("sj_log", "parts/line_at", "parts/find_line")
+
 for name in sys.argv[1:] or ENTRIES:
-    ENTRIES[name]()
+    (ENTRIES.get(name) or LATER[name])()
 PY
