@@ -137,7 +137,10 @@ def code_nodes():
 @entry
 def plain_ends():
     words("sj_plain", End="PlainEnd")
-    imported("sj_plain", r"(?:specs\.declared\.)?kept\.Kept", r"^crates/sj_plain/(src/(kept|lib)\.rt|specs/Kept\.antt)$", Kept="SharedFile")
+    words("sj_plain", Kept="SharedFile")
+    module("sj_plain", "kept", "shared_file")
+    definitions("sj_plain", "Kept", "SharedFile")
+    pages(r"^docs/DECISIONS\.md$", Kept="SharedFile")
 
 # the nodes of a graph
 @entry
@@ -149,7 +152,9 @@ def vertices():
 @entry
 def frames():
     module("sj_end", "wire", "frames")
-    pages(r"^docs/READING\.md$")
+    for p in files(r"^docs/READING\.md$"):
+        text = open(p).read()
+        open(p, "w").write(text.replace("`record.rt`, `wire.rt`; sj_table", "`record.rt`, `frames.rt`; sj_table"))
 
 # a Carry or a Fin comes
 @entry
@@ -163,9 +168,10 @@ def halts():
     imported("sj_node", r"specs\.Node", r"^crates/sj_node/(specs/Node\.antt|src/halts\.rt)$", stop_of="node_halt")
     proofs("sj_node", "halts/stop_of", "halts/node_halt")
 
-# the fields of a frame
+# the fields of a frame; the lists that links keep
 @entry
 def fields():
+    imported("sj_lane", r"specs\.Square", r"^crates/sj_lane/specs/Square\.antt$", Kept="KeepsLists")
     words("sj_lane", Mark="FrameFields", EndMark="EndFields", BodyMark="BodyFields")
 
 # the lines that a picture shows

@@ -3,7 +3,7 @@ use Rattle.std.proofs.Common.{◌≡◌, ℕ, List, [], length, slice_get, unwra
 use Rattle.sj_acceptance.specs.Accepted.{IsAccepted}
 use Rattle.sj_lang.specs.FileAt.{FileAt}
 use Rattle.sj_plain.specs.declared.plain.Plain.{Plain}
-use Rattle.sj_plain.specs.Kept.{without_words}
+use Rattle.sj_plain.specs.SharedFile.{without_words}
 use Rattle.sj_plain.specs.Plain.{acts_of, kept_file, party_count, world_at}
 use Rattle.sj_rules.specs.Party.{nobody}
 use Rattle.sj_semantics.specs.Program.{Program}

@@ -1,7 +1,7 @@
 -- What callers see of a world, by the world of desks in it.
 use Rattle.std.proofs.Common.{◌≡◌, ℕ, ◌+◌, ◌++◌, List, [], ◌∷◌, length, Some, ap, sym, ◌∙◌, subst, append-nil, option_map, refl, arith}
 use Rattle.sj_lang.specs.FileAt.{FileAt}
-use Rattle.sj_plain.specs.Kept.{without_words}
+use Rattle.sj_plain.specs.SharedFile.{without_words}
 use Rattle.sj_plain.specs.Plain.{acts_of, world_at}
 use Rattle.sj_semantics.specs.Program.{Program}
 use Rattle.sj_semantics.specs.Run.{IsRun, end_of}

@@ -9,7 +9,7 @@ use Rattle.sj_semantics.specs.World.{act_of}
 use Rattle.sj_semantics.specs.declared.Want.{Want}
 use Rattle.sj_semantics.specs.declared.Want.TheVariants.{Ended}
 use Rattle.sj_plain.specs.declared.plain.Plain.{Plain}
-use Rattle.sj_plain.specs.Kept.{without_words}
+use Rattle.sj_plain.specs.SharedFile.{without_words}
 use Rattle.sj_plain.specs.Plain.{acts_of, kept_file, party_count, world_at}
 use Rattle.sj_rules.specs.Drain as drain
 use Rattle.sj_rules.specs.Events.{acts_in}

@@ -8,7 +8,7 @@ ghost use Rattle.sj_forward_rules.specs.Ready.{has_step};
 ghost use Rattle.sj_forward_rules.specs.Start.{forward_start};
 ghost use Rattle.sj_forward_rules.specs.World.{IsQuietAmong, happens};
 ghost use Rattle.sj_lang.specs.FileView.{file_of};
-ghost use Rattle.sj_plain.specs.Kept.{without_words};
+ghost use Rattle.sj_plain.specs.SharedFile.{without_words};
 ghost use Rattle.sj_plain.specs.Plain.{acts_of, world_at};
 ghost use Rattle.sj_rules.specs.Events.{acts_by};
 ghost use Rattle.sj_rules.specs.Party.{play_of};

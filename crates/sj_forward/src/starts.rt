@@ -5,7 +5,7 @@ ghost use Rattle.sj_forward.specs.Starting.{AreFirst, AreFirstRows, IsFirst, IsF
 ghost use Rattle.sj_lang.specs.FileAt.{ConnectAt, FileAt};
 ghost use Rattle.sj_lang.specs.FileView.{connect_of, decl_of, file_of, party_of};
 ghost use Rattle.sj_lang.specs.Limits.{limits};
-ghost use Rattle.sj_plain.specs.Kept.{without_words};
+ghost use Rattle.sj_plain.specs.SharedFile.{without_words};
 ghost use Rattle.sj_base.specs.declared.EndId.{EndId};
 ghost use Rattle.sj_rules.specs.Record.{other_end};
 ghost use Rattle.sj_rules.specs.Start.{declared_on};

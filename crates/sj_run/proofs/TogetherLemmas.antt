@@ -5,7 +5,7 @@ use Rattle.std.proofs.Common.{◌≡◌, ℕ, max, Bool, true, List, map, sym, s
 use Rattle.std.specs.Global.{Vec}
 use Rattle.sj_lang.specs.FileAt.{FileAt}
 use Rattle.sj_acceptance.specs.Accepted.{IsAccepted}
-use Rattle.sj_plain.specs.Kept.{without_words}
+use Rattle.sj_plain.specs.SharedFile.{without_words}
 use Rattle.sj_end.specs.declared.note.Entry.{Entry}
 use Rattle.sj_rules.specs.History.{IsHistory}
 use Rattle.sj_rules.specs.Log.{IsJoined, LineAt}

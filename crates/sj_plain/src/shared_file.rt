@@ -12,11 +12,11 @@ use std::sync::Arc;
 
 /// An accepted file, in common with all who keep it. No copy of it is made.
 #[derive(Drop)]
-pub struct Kept {
+pub struct SharedFile {
     file: Arc<File>,
 }
 
-impl Model for Kept {
+impl Model for SharedFile {
     ghost use Rattle.sj_lang.specs.declared.file.File.{File};
     ghost use Rattle.sj_lang.specs.contracts.file.File as f;
 
@@ -29,13 +29,13 @@ impl Model for Kept {
     ghost view = { λ k. arc_value k.file };
 }
 
-impl Kept {
+impl SharedFile {
     /// The accepted file. It is refused where 2^63 - 1 keep it already.
-    pub fn of(accepted: &Accepted) -> Result<Kept, NoMemory>
+    pub fn of(accepted: &Accepted) -> Result<SharedFile, NoMemory>
         ensures value { IfOk result (λ k. k ≡ held accepted.now) }
         ensures accepted { IfOk result (λ k. IsAccepted (file_of k)) }
     {
         let file = accepted.shared()?;
-        Ok(Kept { file })
+        Ok(SharedFile { file })
     }
 }

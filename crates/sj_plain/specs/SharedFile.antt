@@ -2,7 +2,7 @@
 use Rattle.std.specs.Prelude.{[]}
 use Rattle.sj_lang.specs.FileAt.{FileAt}
 use Rattle.sj_lang.specs.FileView.{file_of}
-use Rattle.sj_plain.specs.declared.kept.Kept.{Kept}
+use Rattle.sj_plain.specs.declared.shared_file.SharedFile.{SharedFile}
 
 -- the file without its tables of words and of texts
 abbrev pub without_words : FileAt → FileAt
@@ -15,5 +15,5 @@ without_words file = record {
 }
 
 -- what is kept, as a file that names no words
-abbrev pub file_kept : Kept → FileAt
+abbrev pub file_kept : SharedFile → FileAt
 file_kept k = without_words (file_of k)
