@@ -10,7 +10,7 @@ use Rattle.sj_acceptance.specs.Accepted.{IsAccepted}
 use Rattle.sj_plain.specs.SharedFile.{without_words}
 use Rattle.sj_semantics.specs.Program.{Program}
 use Rattle.sj_table.specs.Spots.{place_in}
-use Rattle.sj_end.specs.declared.wire.Frame.{Frame}
+use Rattle.sj_end.specs.declared.frames.Frame.{Frame}
 use Rattle.sj_end.specs.Views.{frame_at}
 use Rattle.sj_rules.specs.Frames.{FrameAt, IsNoGive}
 use Rattle.sj_rules.specs.History.{IsHistory, IsLog}
