@@ -19,7 +19,7 @@ impl Node {
         ensures { result ≡ stop_by (mains_in self.now.mains.items) self.now.requests (offers_of self.now)
             (steps_of self.now) want }
     {
-        stop_of(
+        node_halt(
             &self.mains,
             self.requests,
             &self.offers,
@@ -31,7 +31,7 @@ impl Node {
 
 /// The first cause that applies: ended, at 10,000 steps, an awaited end, 100 handovers, no message,
 /// 100 requests, no offer.
-pub(crate) fn stop_of(
+pub(crate) fn node_halt(
     mains: &[Option<Main>],
     requests: u8,
     offers: &[Vec<u32>],

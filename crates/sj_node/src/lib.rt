@@ -12,7 +12,7 @@ mod halts;
 mod handovers;
 mod laws;
 mod limits;
-mod messages;
+mod carries;
 mod node;
 mod offers;
 mod openings;
