@@ -166,6 +166,7 @@ def carries():
 def halts():
     words("sj_node", Kept="OldKind")
     imported("sj_node", r"specs\.Node", r"^crates/sj_node/(specs/Node\.antt|src/halts\.rt)$", stop_of="node_halt")
+    words("sj_node", stop_of="node_halt")
     proofs("sj_node", "halts/stop_of", "halts/node_halt")
 
 # the fields of a frame; the lists that links keep

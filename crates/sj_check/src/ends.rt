@@ -89,7 +89,8 @@ fn connected<'a>(
     Ok(body)
 }
 
-fn is_same_end(first: &EndDecl, second: &EndDecl) -> bool
+/// Whether both name one end of one party.
+pub fn is_same_end(first: &EndDecl, second: &EndDecl) -> bool
     ensures { result ≡ tests.is_same_end (decl_of first.now) (decl_of second.now) }
 {
     first.party == second.party && first.name == second.name

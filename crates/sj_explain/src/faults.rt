@@ -9,7 +9,7 @@ use crate::openings::meet_openings;
 use crate::pieces::Piece::{Item as One, Number, Place, Said, Word};
 use crate::walk::block;
 use sj_base::NoMemory;
-use sj_check::CheckRule;
+use sj_check::{CheckRule, is_same_end};
 use sj_lang::{Arms, Connect, EndDecl, File, Item, Kind, Party, Proto, copied, meet_item, meets};
 use std::alloc::Global;
 
@@ -175,7 +175,7 @@ fn check_unused(
     end: EndDecl,
 ) -> Result<(), Stop> {
     for earlier in context.file.connects.iter().take(i) {
-        if is_same_end(earlier.first, end) || is_same_end(earlier.second, end) {
+        if is_same_end(&earlier.first, &end) || is_same_end(&earlier.second, &end) {
             let what = [
                 Word(end.party),
                 Said(b" has an end of that name by the connection on line "),
@@ -185,10 +185,6 @@ fn check_unused(
         }
     }
     Ok(())
-}
-
-fn is_same_end(one: EndDecl, other: EndDecl) -> bool {
-    one.party == other.party && one.name == other.name
 }
 
 // The two protocols of a connection, and where they part.

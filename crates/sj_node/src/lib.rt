@@ -4,6 +4,7 @@
 mod acts;
 mod arrivals;
 mod calls;
+mod carries;
 mod delegations;
 mod deliveries;
 mod departures;
@@ -12,7 +13,6 @@ mod halts;
 mod handovers;
 mod laws;
 mod limits;
-mod carries;
 mod node;
 mod offers;
 mod openings;
