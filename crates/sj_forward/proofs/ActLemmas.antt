@@ -16,7 +16,7 @@ use Rattle.sj_forward.specs.declared.slot.Slot.{Slot}
 use Rattle.sj_forward.specs.declared.records.Use.{Use}
 use Rattle.sj_forward.specs.Desk.{CanPost, CanSend, DoesSo, desk_at}
 use Rattle.sj_forward.specs.Ends.{Writes, held_in}
-use Rattle.sj_forward.specs.Offers.{offering, offers_in}
+use Rattle.sj_offers.specs.Offers.{offering, offers_in}
 use Rattle.sj_forward.specs.Outs.{lane_in}
 use Rattle.sj_forward.specs.Views.{use_of}
 use Rattle.sj_forward.proofs.DeskLemmas.{desk_written, does_post, does_quietly, does_so}

@@ -14,7 +14,7 @@ use Rattle.sj_forward.specs.declared.records.Kind.TheVariants as kinds
 use Rattle.sj_forward.specs.declared.records.Seen.{Seen}
 use Rattle.sj_forward.specs.Desk.{DoesSo, desk_at}
 use Rattle.sj_forward.specs.Ends.{EndsStay, Rows, Writes, is_storing, more_stored, records_in, stores, uses_in}
-use Rattle.sj_forward.specs.Offers.{offering, offers_in}
+use Rattle.sj_offers.specs.Offers.{offering, offers_in}
 use Rattle.sj_forward.specs.Outs.{inward, lane_in}
 use Rattle.sj_forward.specs.Views.{kind_of, seen_of}
 use Rattle.sj_forward.proofs.ActLemmas.{Lanes, Table}

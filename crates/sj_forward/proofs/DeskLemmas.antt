@@ -11,7 +11,7 @@ use Rattle.sj_forward.specs.declared.desk.Desk.{Desk}
 use Rattle.sj_forward.specs.declared.slot.Slot.{Slot}
 use Rattle.sj_forward.specs.Desk.{Does, DoesSo, desk_at, lane_of}
 use Rattle.sj_forward.specs.Ends.{Rows, Writes, uses_in}
-use Rattle.sj_forward.specs.Offers.{offers_in}
+use Rattle.sj_offers.specs.Offers.{offers_in}
 use Rattle.sj_forward.proofs.SlotLemmas.{one_other, one_same}
 use Rattle.sj_forward_rules.specs.Node.{NodeAt, Worked, quietly, with_record, with_use}
 use Rattle.sj_forward_rules.specs.Record.{RecordAt, FrameAt}

@@ -17,7 +17,7 @@ use Rattle.sj_forward.specs.Desk.{Does, desk_at, lane_of}
 use Rattle.sj_forward.specs.Outs.{DropsFront}
 use Rattle.sj_forward.proofs.DeskWorldLemmas.{file, plain_run_of, programs_on}
 use Rattle.sj_forward.proofs.ListLemmas.{lanes_after, nodes_after, world_is}
-use Rattle.sj_forward.proofs.SetLemmas.{set_here, set_there}
+use Rattle.sj_offers.proofs.SetLemmas.{set_here, set_there}
 use Rattle.sj_forward.proofs.SlotLemmas.{one_other, one_same}
 use Rattle.sj_forward_rules.specs.Acts.{acts}
 use Rattle.sj_forward_rules.specs.Arrivals.{comes}

@@ -11,7 +11,7 @@ use Rattle.std.specs.VecDeque.{deque_len, deque_capacity}
 use Rattle.sj_forward.specs.declared.frame.Frame.{Frame}
 use Rattle.sj_forward.specs.Outs.{DropsFront, Outs, frames_in, lane_in, room_in, room_of}
 use Rattle.sj_forward.specs.Views.{frame_at}
-use Rattle.sj_forward.proofs.SetLemmas.{set_here, set_there}
+use Rattle.sj_offers.proofs.SetLemmas.{set_here, set_there}
 use Rattle.sj_forward.proofs.SlotLemmas.{one_other, one_same}
 use Rattle.sj_forward_rules.specs.Record.{FrameAt}
 

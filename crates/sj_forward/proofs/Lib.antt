@@ -1,6 +1,5 @@
 pub mod ResultLemmas
 pub mod SlotLemmas
-pub mod SetLemmas
 pub mod FoundLemmas
 pub mod WriteLemmas
 pub mod EndsLemmas
@@ -26,6 +25,5 @@ pub mod DrainLemmas
 pub mod FrontLemmas
 pub mod RoundLemmas
 pub mod BreakLemmas
-pub mod OfferLemmas
 pub mod TurnLemmas
 pub mod WorldLemmas

@@ -9,7 +9,7 @@ use Rattle.sj_semantics.specs.Program.{Program}
 use Rattle.sj_forward.specs.declared.desk.Desk.{Desk}
 use Rattle.sj_forward.specs.DeskWorld.{lane_or, node_or, program_in, world_by}
 use Rattle.sj_forward.specs.Desk.{Does}
-use Rattle.sj_forward.proofs.SetLemmas.{set_here, set_there}
+use Rattle.sj_offers.proofs.SetLemmas.{set_here, set_there}
 use Rattle.sj_forward.proofs.SlotLemmas.{one_other, one_same}
 use Rattle.sj_forward_rules.specs.Node.{NodeAt, Worked, with_program}
 use Rattle.sj_forward_rules.specs.Start.{first_node}

@@ -13,7 +13,7 @@ use Rattle.sj_rules.specs.Start.{connect_of}
 use Rattle.sj_forward.specs.declared.desk.Desk.{Desk}
 use Rattle.sj_forward.specs.declared.slot.Slot.{Slot}
 use Rattle.sj_forward.specs.Ends.{Rows, record_in, records_in, slot_in, uses_in}
-use Rattle.sj_forward.specs.Offers.{offers_in}
+use Rattle.sj_offers.specs.Offers.{offers_in}
 use Rattle.sj_forward.specs.Outs.{Outs, lane_in}
 use Rattle.sj_forward.specs.Starting.{AreFirst, AreFirstRows, IsFirst, IsFirstRow, IsFirstSlot}
 use Rattle.sj_forward.proofs.SlotLemmas.{some_same}

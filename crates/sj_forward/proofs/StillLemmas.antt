@@ -16,7 +16,7 @@ use Rattle.sj_forward.specs.declared.desk_world.DeskWorld.{DeskWorld}
 use Rattle.sj_forward.specs.declared.desk.Desk.{Desk}
 use Rattle.sj_forward.specs.DeskWorld.{IsLedBy, IsReached, PlainStays, StaysIn, desks_in, file_in, lane_or, node_or, program_in, world_by, world_in}
 use Rattle.sj_forward.specs.Desk.{DeskStays}
-use Rattle.sj_forward.proofs.SetLemmas.{set_here, set_there}
+use Rattle.sj_offers.proofs.SetLemmas.{set_here, set_there}
 use Rattle.sj_forward_rules.specs.Start.{IsForwardRun, first_node}
 use Rattle.sj_forward_rules.specs.World.{WorldAt}
 

@@ -21,7 +21,7 @@ use Rattle.sj_forward.specs.Views.{frame_at}
 use Rattle.sj_forward.proofs.DeskWorldLemmas.{few_events, file, reached_so, row_there, steps_so}
 use Rattle.sj_forward.proofs.ListLemmas.{lanes_after}
 use Rattle.sj_forward.proofs.DeskLemmas.{did}
-use Rattle.sj_forward.proofs.SetLemmas.{set_here}
+use Rattle.sj_offers.proofs.SetLemmas.{set_here}
 use Rattle.sj_forward.proofs.EventLemmas.{acted_so, came_so}
 use Rattle.sj_forward.proofs.ReadyLemmas.{does_act, done_there}
 use Rattle.sj_forward.proofs.SlotLemmas.{some_same}

@@ -14,7 +14,7 @@ use Rattle.sj_rules.specs.Play.{Play}
 use Rattle.sj_rules.specs.Record.{requested_end}
 use Rattle.sj_forward.specs.declared.desk.Desk.{Desk}
 use Rattle.sj_forward.specs.Ends.{HasPlace, held_in, records_in, uses_in}
-use Rattle.sj_forward.specs.Offers.{offers_in}
+use Rattle.sj_offers.specs.Offers.{offers_in}
 use Rattle.sj_forward.specs.Outs.{lane_in, room_in}
 use Rattle.sj_forward_rules.specs.Acts.{act_by}
 use Rattle.sj_forward_rules.specs.Arrivals.{comes}

@@ -1,7 +1,6 @@
 pub mod Views
 pub mod Ends
 pub mod Outs
-pub mod Offers
 pub mod Desk
 pub mod Starting
 pub mod DeskWorld

@@ -2,7 +2,7 @@
 ghost use Rattle.std.specs.Prelude.{◌≡◌, ◌<◌, ◌^◌, Some, OnOk, OnErr, IsSome, true};
 ghost use Rattle.sj_forward.specs.Desk.{Acts, CanClaim, CanPost, CanSend, CanTake, DoesSo, HasAct, HasRoom, DeskStays, desk_at};
 ghost use Rattle.sj_forward.specs.Ends.{HasPlace, held_in};
-ghost use Rattle.sj_forward.specs.Offers.{offers_in};
+ghost use Rattle.sj_offers.specs.Offers.{offers_in};
 ghost use Rattle.sj_forward.specs.Views.{sent_at};
 ghost use Rattle.sj_forward_rules.specs.Acts.{accept_act, close_act, delegate_act, request_act, send_act, take_act, work_of_take};
 ghost use Rattle.sj_forward_rules.specs.Node.{held_of};
@@ -19,9 +19,9 @@ use crate::desk::Desk;
 use crate::ends::{begin, close, held_at, make_place, park, take_first};
 use crate::frame::{Frame, Sent, onward};
 use crate::lanes::{make_room, put_frame};
-use crate::offers::{offered_by, withdraw};
 use sj_base::{EndId, Msg, NoMemory};
 use sj_machine::opened_number;
+use sj_offers::{offered_by, withdraw};
 use sj_semantics::Want;
 
 impl Desk {

@@ -11,9 +11,9 @@ use crate::desk::Desk;
 use crate::ends::{begin, make_place, pass_on, seen_at, store};
 use crate::frame::{Frame, Sent, onward};
 use crate::lanes::{make_room, put_all, put_frame};
-use crate::offers::offer;
 use crate::records::Kind;
 use sj_base::{EndId, NoMemory};
+use sj_offers::offer;
 
 impl Desk {
     /// A frame that fits comes from that party.

@@ -14,7 +14,7 @@ mod handovers;
 mod laws;
 mod limits;
 mod node;
-mod offers;
+mod numbers;
 mod openings;
 mod outs;
 mod readers;

@@ -2,7 +2,7 @@ use Rattle.std.proofs.Common.{List, ℕ, ap, sym, ◌∙◌}
 use Rattle.std.specs.Prelude.{Vec}
 use Rattle.std.specs.declared.alloc.Global.{Global}
 use Rattle.sj_rules.specs.Opened.{smallest}
-use Rattle.sj_forward.specs.Offers.{offers_in}
+use Rattle.sj_offers.specs.Offers.{offers_in}
 use Rattle.sj_forward.proofs.ActLemmas.{accepts_so}
 use Rattle.sj_forward.proofs.desk.Desk.accept.Goals as goal
 

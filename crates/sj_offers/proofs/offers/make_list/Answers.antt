@@ -1,7 +1,7 @@
 use Rattle.std.proofs.Common.{ap, ◌∙◌, arith}
-use Rattle.sj_node.specs.Offers.{offers_in}
-use Rattle.sj_node.proofs.OfferLemmas.{offers_grown, offers_kept, room_set}
-use Rattle.sj_node.proofs.offers.make_list.Goals as goal
+use Rattle.sj_offers.specs.Offers.{offers_in}
+use Rattle.sj_offers.proofs.OfferLemmas.{offers_grown, offers_kept, room_set}
+use Rattle.sj_offers.proofs.offers.make_list.Goals as goal
 
 pub loop-alloc-preserved : goal.loop-alloc-preserved
 loop-alloc-preserved c = ap offers_in c.in_ok-push.ensures.items ∙ offers_grown c.loop-alloc.offers.items c.new.result c.new.ensures.items ∙ c.loop-alloc.invariant

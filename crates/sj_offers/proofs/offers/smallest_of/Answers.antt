@@ -1,7 +1,7 @@
 use Rattle.std.proofs.Common.{◌+◌, Some, drop, ap, sym, ◌∙◌, arith}
 use Rattle.sj_rules.specs.Opened.{smallest_from}
-use Rattle.sj_node.proofs.OfferLemmas.{least_from}
-use Rattle.sj_node.proofs.offers.smallest_of.Goals as goal
+use Rattle.sj_offers.proofs.OfferLemmas.{least_from}
+use Rattle.sj_offers.proofs.offers.smallest_of.Goals as goal
 
 pub loop-at-preserved : goal.loop-at-preserved
 loop-at-preserved c =

@@ -1,8 +1,8 @@
 use Rattle.std.proofs.Common.{rules, ◌==◌, not, ap, sym, ◌∙◌}
 use Rattle.std.proofs.lemmas.Fn.{filter_same}
 use Rattle.sj_rules.specs.Opened.{without}
-use Rattle.sj_node.proofs.OfferLemmas.{offering_there, offers_here, offers_set}
-use Rattle.sj_node.proofs.offers.withdraw.Goals as goal
+use Rattle.sj_offers.proofs.OfferLemmas.{offering_there, offers_here, offers_set}
+use Rattle.sj_offers.proofs.offers.withdraw.Goals as goal
 
 pub returns : goal.returns
 returns c =

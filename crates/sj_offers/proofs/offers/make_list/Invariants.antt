@@ -1,6 +1,6 @@
 use Rattle.std.proofs.Common.{◌≡◌, ◌+◌, ◌-◌, vec_len}
-use Rattle.sj_forward.specs.Offers.{offers_in}
-use Rattle.sj_forward.proofs.offers.make_list.Given as goal
+use Rattle.sj_offers.specs.Offers.{offers_in}
+use Rattle.sj_offers.proofs.offers.make_list.Given as goal
 
 -- the same is offered
 abbrev pub invariant-loop-alloc : goal.invariant-loop-alloc

@@ -1,37 +1,14 @@
-//! Sessions that are opened at run time: their numbers, and which ones each party offers.
+//! Which sessions each party offers, as lists.
 ghost use Rattle.std.specs.Prelude.{◌≡◌, ◌++◌, ◌∷◌, [], Some, not, OnOk, OnErr};
-ghost use Rattle.sj_node.specs.Offers.{CanOffer, offering, offers_in};
-ghost use Rattle.sj_node.specs.Play.{is_number};
+ghost use Rattle.sj_offers.specs.Offers.{CanOffer, offering, offers_in};
 ghost use Rattle.sj_rules.specs.Halts.{is_empty};
 ghost use Rattle.sj_rules.specs.Opened as rules;
 
 use sj_base::NoMemory;
-use sj_machine::{FIRST_OPENED, MAX_REQUESTS, opened_number};
 use std::alloc::Global;
 
-/// Whether the session is one of those that the party can open.
-pub(crate) fn is_opened_by(party: u16, sess: u32) -> bool
-    ensures { result ≡ rules.is_opened_by party sess }
-{
-    sess >= FIRST_OPENED && (sess - FIRST_OPENED) / MAX_REQUESTS as u32 == party as u32
-}
-
-/// Whether the session is one that some of so many parties can open.
-pub(crate) fn is_openable(parties: u16, sess: u32) -> bool
-    ensures { result ≡ rules.is_openable parties sess }
-{
-    FIRST_OPENED <= sess && sess < opened_number(parties, 0)
-}
-
-/// Whether the session is one of so many connections, or one that some of so many parties can open.
-pub(crate) fn is_session(connects: usize, parties: u16, sess: u32) -> bool
-    ensures { result ≡ is_number connects parties sess }
-{
-    (sess as usize) < connects || is_openable(parties, sess)
-}
-
 /// Whether the party offers any session.
-pub(crate) fn is_offering(offers: &[Vec<u32>], from: u16) -> bool
+pub fn is_offering(offers: &[Vec<u32>], from: u16) -> bool
     ensures { result ≡ not (is_empty (offers_in offers.now from)) }
 {
     if from as usize >= offers.len() {
@@ -42,7 +19,7 @@ pub(crate) fn is_offering(offers: &[Vec<u32>], from: u16) -> bool
 }
 
 /// Of the sessions that the party offers the one with the smallest number.
-pub(crate) fn offered_by(offers: &[Vec<u32>], from: u16) -> Option<u32>
+pub fn offered_by(offers: &[Vec<u32>], from: u16) -> Option<u32>
     ensures { result ≡ rules.smallest (offers_in offers.now from) }
 {
     if from as usize >= offers.len() {
@@ -68,7 +45,7 @@ fn smallest_of(numbers: &[u32]) -> Option<u32>
 }
 
 /// Puts the session after those that the party offers.
-pub(crate) fn offer(
+pub fn offer(
     alloc: Global,
     offers: &mut Vec<Vec<u32>>,
     from: u16,
@@ -102,7 +79,7 @@ fn make_list(alloc: Global, offers: &mut Vec<Vec<u32>>, from: u16) -> Result<(),
 }
 
 /// Takes the session off those that the party offers.
-pub(crate) fn withdraw(offers: &mut Vec<Vec<u32>>, from: u16, sess: u32)
+pub fn withdraw(offers: &mut Vec<Vec<u32>>, from: u16, sess: u32)
     requires { rules.smallest (offers_in offers.old.items from) ≡ Some sess }
     ensures { offers_in offers.new.items
         ≡ offering from (rules.without sess (offers_in offers.old.items from)) (offers_in offers.old.items) }

@@ -1,15 +1,14 @@
 -- Lists of offers, and what is put into them and taken out.
 use Rattle.std.proofs.Common.{◌≡◌, ◌≢◌, ℕ, zero, suc, ◌+◌, ◌<◌, true, false, eqb, List, [], ◌∷◌, ◌++◌, length, get_or, slice_get, drop, Some, None, refl, ap, sym, ◌∙◌, subst, arith, inl, inr}
-use Rattle.std.proofs.Common.{Result, Ok, Err, OnOk}
-use Rattle.std.specs.Prelude.{is_err, Vec, min, vec_capacity, vec_len}
+use Rattle.std.specs.Prelude.{Vec, min, vec_capacity, vec_len}
 use Rattle.std.proofs.lemmas.Bool.{cases_eq, cases_lt}
 use Rattle.std.proofs.lemmas.Bool.Decides.{nat_tests}
 use Rattle.std.proofs.lemmas.Option.{slice_get-get_or, slice_get_past}
 use Rattle.std.proofs.Math.ListN.{set}
 use Rattle.std.specs.declared.alloc.Global.{Global}
 use Rattle.sj_rules.specs.Opened.{smallest, smallest_from}
-use Rattle.sj_node.specs.Offers.{CanOffer, numbers_in, offering, offers_in, TakesMore}
-use Rattle.sj_node.proofs.OutLemmas.{set_here, set_there}
+use Rattle.sj_offers.specs.Offers.{CanOffer, numbers_in, offering, offers_in, TakesMore}
+use Rattle.sj_offers.proofs.SetLemmas.{set_here, set_there}
 
 one_same : (n : ℕ) → eqb n n ≡ true
 one_same n = grind (arith, nat_tests)
@@ -66,11 +65,6 @@ offering_there lists q sess least =
       | inl lt ↦ lt
       | inr le ↦ let none : offers_in lists q ≡ [] = ap numbers_in (slice_get_past lists q le) in absurd (cc (least, none))
     ]
-
--- what holds where the answer is no refusal
-pub was_ok : {T E : Type 0} {P : Type 0} (r : Result T E) → is_err r ≡ false → OnOk r P → P
-was_ok (Ok x) no_err h = h
-was_ok (Err e) no_err h = cc
 
 -- ---- the smallest number
 

@@ -1,7 +1,7 @@
 use Rattle.std.proofs.Common.{◌∷◌, ◌++◌, [], sym, ◌∙◌}
-use Rattle.sj_node.specs.Offers.{offering, offers_in}
-use Rattle.sj_node.proofs.OfferLemmas.{list_there, offers_here, offers_set}
-use Rattle.sj_node.proofs.offers.offer.Goals as goal
+use Rattle.sj_offers.specs.Offers.{offering, offers_in}
+use Rattle.sj_offers.proofs.OfferLemmas.{list_there, offers_here, offers_set}
+use Rattle.sj_offers.proofs.offers.offer.Goals as goal
 
 pub returns-in-Ok-clause-ok : goal.returns-in-Ok-clause-ok
 returns-in-Ok-clause-ok c =

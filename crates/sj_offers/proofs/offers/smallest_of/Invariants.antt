@@ -1,6 +1,6 @@
 use Rattle.std.proofs.Common.{◌≡◌, ◌-◌, ◌≤◌, Some, drop, length}
 use Rattle.sj_rules.specs.Opened.{smallest, smallest_from}
-use Rattle.sj_node.proofs.offers.smallest_of.Given as goal
+use Rattle.sj_offers.proofs.offers.smallest_of.Given as goal
 
 -- the smallest is the smallest of the number so far and those that are left
 abbrev pub invariant-loop-at : goal.invariant-loop-at
