@@ -183,7 +183,7 @@ def drawn():
 # the words that are underlined; how a walk ends
 @entry
 def underlines():
-    words("sj_explain", Mark="Underline", mark="underline", Stop="WalkEnd")
+    words("sj_explain", Mark="Span", Stop="Exit")
 
 # a party that forwards
 @entry

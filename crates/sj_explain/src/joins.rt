@@ -1,8 +1,8 @@
 //! What two ways leave, compared, and what is known put in words.
 
-use crate::context::{Context, Site, Stop, stop_with};
+use crate::context::{Context, Exit, Site, stop_with};
 use crate::env::{Env, LiveEnd};
-use crate::marks::Mark;
+use crate::marks::Span;
 use crate::pieces::Piece::{Place, Said, Scalar, Word};
 use crate::pieces::{Piece, put_pieces};
 use sj_base::NoMemory;
@@ -17,7 +17,7 @@ pub(crate) fn compare(
     site: Site,
     one: &Env,
     other: &Env,
-) -> Result<(), Stop> {
+) -> Result<(), Exit> {
     for end in &one.ends {
         match other.place(end.name) {
             Some(place) if same(&end.place, place) => {}
@@ -56,11 +56,11 @@ fn apart<'x>(
     site: Site,
     end: &'x LiveEnd,
     place: &'x Proto,
-) -> Stop {
+) -> Exit {
     context.stop(
         rule,
         site,
-        Mark::Token(0),
+        Span::Token(0),
         &[
             Said(b"ahead of "),
             Word(end.name),
@@ -75,7 +75,7 @@ fn apart<'x>(
 }
 
 // An end that is live on one of the two ways alone.
-fn one_sided(context: Context<'_>, rule: CheckRule, site: Site, name: u16, first: bool) -> Stop {
+fn one_sided(context: Context<'_>, rule: CheckRule, site: Site, name: u16, first: bool) -> Exit {
     let ways = if first {
         [first_way(rule), other_way(rule)]
     } else {
@@ -84,7 +84,7 @@ fn one_sided(context: Context<'_>, rule: CheckRule, site: Site, name: u16, first
     context.stop(
         rule,
         site,
-        Mark::Token(0),
+        Span::Token(0),
         &[
             Word(name),
             Said(b" is live"),
@@ -101,12 +101,12 @@ pub(crate) fn tell_dead(
     env: &Env,
     rule: CheckRule,
     site: Site,
-    mark: Mark,
-) -> Stop {
+    mark: Span,
+) -> Exit {
     let mut knew = Vec::new(context.alloc);
     match put_live(context, &mut knew, env) {
         Ok(()) => stop_with(rule, site, mark, knew),
-        Err(NoMemory) => Stop::NoMemory,
+        Err(NoMemory) => Exit::NoMemory,
     }
 }
 

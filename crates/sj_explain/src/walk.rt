@@ -1,10 +1,10 @@
 //! The walk through a body, statement by statement, up to its first fault.
 
-use crate::context::{Context, Seen, Site, Stop};
+use crate::context::{Context, Exit, Seen, Site};
 use crate::env::Env;
 use crate::expressions::{kind_of, want};
 use crate::joins::compare;
-use crate::marks::{Mark, Part};
+use crate::marks::{Part, Span};
 use crate::pieces::Piece::{Place, Said, Word};
 use crate::places::{copied_arm, copied_turn};
 use crate::statements::{
@@ -20,7 +20,7 @@ pub(crate) fn block(
     env: &mut Env,
     seen: &mut Seen,
     stmts: &[Stmt],
-) -> Result<(), Stop> {
+) -> Result<(), Exit> {
     for stmt in stmts {
         let site = seen.enter(Part::Statement, stmt.line);
         statement(context, env, seen, site, &stmt.deed)?;
@@ -35,7 +35,7 @@ fn statement(
     seen: &mut Seen,
     site: Site,
     deed: &Deed,
-) -> Result<(), Stop> {
+) -> Result<(), Exit> {
     match deed {
         Deed::Send { end, value } => send(context, env, site, *end, value),
         Deed::Delegate { end, sent } => delegate(context, env, site, *end, *sent),
@@ -87,7 +87,7 @@ fn check_out_while(
     site: Site,
     end: u16,
     count: &Expr,
-) -> Result<(), Stop> {
+) -> Result<(), Exit> {
     let place = live(context, env, site, 1, end)?;
     let Some(Item::OutLoop(_)) = place.items.first() else {
         return Err(other_action(context, site, 1, end, place, b"`![..]*`"));
@@ -97,7 +97,7 @@ fn check_out_while(
 }
 
 // The end of an `inwhile` stands before its loop.
-fn check_in_while(context: Context<'_>, env: &Env, site: Site, end: u16) -> Result<(), Stop> {
+fn check_in_while(context: Context<'_>, env: &Env, site: Site, end: u16) -> Result<(), Exit> {
     let place = live(context, env, site, 1, end)?;
     let Some(Item::InLoop(_)) = place.items.first() else {
         return Err(other_action(context, site, 1, end, place, b"`?[..]*`"));
@@ -112,7 +112,7 @@ fn check_relay(
     site: Site,
     from: u16,
     to: u16,
-) -> Result<(), Stop> {
+) -> Result<(), Exit> {
     let source = live(context, env, site, 1, from)?;
     let target = live(context, env, site, 2, to)?;
     let Some(Item::InLoop(_)) = source.items.first() else {
@@ -133,7 +133,7 @@ fn turn(
     site: Site,
     ends: &[u16],
     body: &[Stmt],
-) -> Result<(), Stop> {
+) -> Result<(), Exit> {
     let mut inner = env.copy(context.alloc)?;
     for end in ends {
         enter(context, &mut inner, *end)?;
@@ -146,7 +146,7 @@ fn turn(
     Ok(())
 }
 
-fn enter(context: Context<'_>, env: &mut Env, end: u16) -> Result<(), Stop> {
+fn enter(context: Context<'_>, env: &mut Env, end: u16) -> Result<(), Exit> {
     if let Some(place) = env.place(end) {
         let inner = copied_turn(context.alloc, place)?;
         env.put(end, inner)?;
@@ -155,14 +155,14 @@ fn enter(context: Context<'_>, env: &mut Env, end: u16) -> Result<(), Stop> {
 }
 
 // What is known before the blocks of an `if`, once more.
-fn copy_behind_test(context: Context<'_>, env: &Env, site: Site, test: &Expr) -> Result<Env, Stop> {
+fn copy_behind_test(context: Context<'_>, env: &Env, site: Site, test: &Expr) -> Result<Env, Exit> {
     let kind = kind_of(context, env, site, 1, test)?;
     want(context, site, 1, Scalar::Boolean, kind)?;
     Ok(env.copy(context.alloc)?)
 }
 
 // What both blocks of an `if` leave.
-fn join(context: Context<'_>, env: &mut Env, site: Site, other: &Env) -> Result<(), Stop> {
+fn join(context: Context<'_>, env: &mut Env, site: Site, other: &Env) -> Result<(), Exit> {
     compare(context, CheckRule::ArmsDiffer, site, env, other)?;
     env.keep_common(other);
     Ok(())
@@ -176,7 +176,7 @@ fn branch(
     site: Site,
     end: u16,
     arms: &[StmtArm],
-) -> Result<(), Stop> {
+) -> Result<(), Exit> {
     let place = live(context, env, site, 1, end)?;
     let Some(Item::Branch(choice)) = place.items.first() else {
         return Err(other_action(context, site, 1, end, place, b"`?{..}`"));
@@ -203,17 +203,17 @@ fn branch(
     Ok(())
 }
 
-fn other_labels(context: Context<'_>, site: Site, end: u16, place: &Proto) -> Stop {
+fn other_labels(context: Context<'_>, site: Site, end: u16, place: &Proto) -> Exit {
     context.stop(
         CheckRule::OtherArms,
         site,
-        Mark::Token(0),
+        Span::Token(0),
         &[Said(b"ahead of "), Word(end), Said(b" is "), Place(place)],
     )
 }
 
 // What is known in the arm of that label.
-fn at_arm(context: Context<'_>, env: &Env, end: u16, label: u16) -> Result<Env, Stop> {
+fn at_arm(context: Context<'_>, env: &Env, end: u16, label: u16) -> Result<Env, Exit> {
     let mut inner = env.copy(context.alloc)?;
     if let Some(place) = env.place(end) {
         if let Some(Item::Branch(choice)) = place.items.first() {
