@@ -21,9 +21,16 @@ def change(paths, words):
         if new != old:
             open(p, "w").write(new)
 
-# these words in all of these crates
+# these words in all of these crates, also as names of folders and files
 def words(*crates, **named):
     change(texts_of(crates), named)
+    for p in files(r"^crates/(%s)/(src|specs|proofs)/" % "|".join(crates)):
+        parts = p.split("/")
+        parts[3:] = [named.get(a.split(".")[0], a.split(".")[0]) + a[len(a.split(".")[0]):] for a in parts[3:]]
+        new = "/".join(parts)
+        if new != p:
+            os.makedirs(os.path.dirname(new), exist_ok=True)
+            subprocess.run(["git", "mv", p, new], check=True)
 
 # whether the text imports the word from that module of definitions, or from that crate's code
 def imports(text, crate, module, word):

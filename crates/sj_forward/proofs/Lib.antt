@@ -5,7 +5,7 @@ pub mod WriteLemmas
 pub mod EndsLemmas
 pub mod RoomLemmas
 pub mod LaneLemmas
-pub mod DeskLemmas
+pub mod ForwarderLemmas
 pub mod ActLemmas
 pub mod TakeLemmas
 pub mod DelegateLemmas
@@ -14,7 +14,7 @@ pub mod LawLemmas
 pub mod SameLemmas
 pub mod StepLemmas
 pub mod ListLemmas
-pub mod DeskWorldLemmas
+pub mod ForwarderWorldLemmas
 pub mod StartLemmas
 pub mod FirstLemmas
 pub mod ReadyLemmas
