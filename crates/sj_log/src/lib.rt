@@ -9,7 +9,7 @@ mod names;
 mod notes;
 mod parts;
 mod refusal;
-mod words;
+mod reported;
 
 pub use laws::{printed_lines_are_read, sources_are_parted_in_one_way};
 pub use lines::read_log;

@@ -2,7 +2,7 @@
 ghost use Rattle.std.specs.Prelude.{◌≡◌, ◌==◌, ◌≤◌, length};
 ghost use Rattle.std.specs.List.{position_or_len};
 ghost use Rattle.std.specs.Option.{option_copied};
-ghost use Rattle.sj_talk.specs.Words.{rest, word, words_in, words_left, words_text};
+ghost use Rattle.sj_fields.specs.Fields.{rest, word, words_in, words_left, words_text};
 
 use std::marker::Model;
 
@@ -34,26 +34,26 @@ fn cut(line: &[u8]) -> (&[u8], Option<&[u8]>)
 
 /// The words that are left of a line.
 #[derive(Drop)]
-pub struct Words<'a> {
+pub struct Fields<'a> {
     left: Option<&'a [u8]>,
 }
 
-impl<'a> Model for Words<'a> {
+impl<'a> Model for Fields<'a> {
     ghost use Rattle.std.specs.Prelude.{ℕ, List};
     ghost use Rattle.std.specs.Option.{option_copied};
-    ghost use Rattle.sj_talk.specs.Words.{words_left};
+    ghost use Rattle.sj_fields.specs.Fields.{words_left};
 
     ghost Value = { List (List ℕ) };
 
-    ghost view = { λ w. words_left (option_copied w.left) };
+    ghost view = { λ f. words_left (option_copied f.left) };
 }
 
-impl<'a> Words<'a> {
+impl<'a> Fields<'a> {
     /// All words of a line.
-    pub fn of(line: &'a [u8]) -> Words<'a>
+    pub fn of(line: &'a [u8]) -> Fields<'a>
         ensures { result ≡ words_in line.now }
     {
-        Words { left: Some(line) }
+        Fields { left: Some(line) }
     }
 
     /// The next word, and an empty one where none is left.
