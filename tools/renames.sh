@@ -212,6 +212,36 @@ def found_lines():
     imported("sj_log", r"(?:proofs\.)?parts", r"^crates/sj_log/src/(parts|lib)\.rt$", line_at="find_line")
     proofs("sj_log", "parts/line_at", "parts/find_line")
 
+# one call of a worker; not what a row leaves
+@later
+def calls():
+    imported("sj_work", r"specs\.Worked", r"^crates/sj_work/specs/Worked\.antt$", Worked="IsCall")
+    imported("sj_work", r"specs\.Views", r"^crates/sj_work/specs/Views\.antt$", line_at="unfit_line")
+
+# a pool of workers: what each begins with, and what they leave
+@later
+def pools():
+    module("sj_steal", "team", "working")
+    module("sj_steal", "hires", "new_members")
+    definitions("sj_steal", "Teams", "NewMembers")
+    words("sj_steal", hire="new_members", HireLemmas="NewMemberLemmas")
+    for crate in ("sj_run", "sj_seat_run"):
+        module(crate, "remains", "leftovers")
+        words(crate, Remains="Leftovers", remains="leftovers")
+    module("sj_run", "teams", "workers")
+    module("sj_run", "crews", "working")
+    words("sj_run", hire="workers_for", hired="begun", AreHired="AreBegun", IsHired="IsBegun",
+        HiredLemmas="BegunLemmas", one_hired="one_begun", none_hired="none_begun", hired_or="begun_or",
+        parties_hired="parties_begun", team="worker_of", team_play="workers_play", team_work="workers_work",
+        team_works="workers_do", team_shown="workers_shown", one_team="one_pool", TeamLemmas="WorkersLemmas")
+
+# a node and what it sends; the invariant of forwarding; a text that stands for one
+@later
+def laws():
+    imported("sj_forward_rules", r"specs\.Node", r"^crates/sj_forward_rules/specs/Node\.antt$", Worked="NodeSends")
+    definitions("sj_forward_laws", "Kept", "Invariants")
+    imported("sj_legible_laws", r"proofs\.PartyLemmas", r"^crates/sj_legible_laws/proofs/PartyLemmas\.antt$", Kept="HasTexts")
+
 for name in sys.argv[1:] or ENTRIES:
     (ENTRIES.get(name) or LATER[name])()
 PY

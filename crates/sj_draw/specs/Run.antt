@@ -1,7 +1,7 @@
 -- What the program answers to its input.
 use Rattle.std.specs.Prelude.{◌≡◌, ◌⊎◌, ℕ, ◌<◌, ◌≤◌, List, [], ◌++◌, Option, IfSome, length, decimal, codes}
 use Rattle.sj_base.specs.Stream.{Rose, CameOf, WroteFrontOf, put_before, put_behind}
-use Rattle.sj_text.specs.Statuses.{read_fault_status, too_large_status, write_fault_status, no_memory_status}
+use Rattle.sj_text.specs.Statuses.{read_fault_status, too_large_status}
 use Rattle.sj_draw.specs.Answer.{outcome_of}
 use Rattle.sj_draw.specs.Drawn.{picture}
 use Rattle.sj_draw.specs.Chart.{Outcome, Gathered, Unread, Beyond}

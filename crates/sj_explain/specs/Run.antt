@@ -1,7 +1,7 @@
 -- What the program answers to its words and its input.
 use Rattle.std.specs.Prelude.{◌≡◌, ◌⊎◌, ℕ, ◌<◌, ◌≤◌, false, true, List, [], Option, IfSome, length, codes}
 use Rattle.sj_base.specs.Stream.{Rose, CameOf, WroteFrontOf, put_before, put_behind}
-use Rattle.sj_text.specs.Statuses.{read_fault_status, too_large_status, write_fault_status, no_memory_status}
+use Rattle.sj_text.specs.Statuses.{read_fault_status, too_large_status}
 use Rattle.sj_lang.specs.Limits.{file_limit}
 use Rattle.sj_explain.specs.declared.answers.CheckAnswer.{CheckAnswer}
 use Rattle.sj_explain.specs.Answers.{IsAnswer, TellsIt, status_of}
@@ -72,7 +72,3 @@ pub record WroteFront (c : CallAt) (before after : Option (List ℕ)) : Type 0 w
   pub text : List ℕ
   pub comes : IsAnswered c status text
   pub front : WroteFrontOf text before after
-
--- it holds, unless a write failed or there was no memory
-abbrev pub OrYields : ℕ → Type 0 → Type 0
-OrYields status P = P ⊎ ((status ≡ write_fault_status) ⊎ (status ≡ no_memory_status))

@@ -1,8 +1,8 @@
 //! From the words and the input to the output.
 ghost use Rattle.std.specs.Prelude.{◌≡◌, ◌≤◌, IfOk, map, string_bytes};
 ghost use Rattle.sj_base.specs.Stream.{Rose};
-ghost use Rattle.sj_text.specs.Statuses.{no_memory_status, write_fault_status};
-ghost use Rattle.sj_explain.specs.Run.{AnswersOne, IsAnswered, OrYields, WroteFront};
+ghost use Rattle.sj_text.specs.Statuses.{OrYields, no_memory_status, write_fault_status};
+ghost use Rattle.sj_explain.specs.Run.{AnswersOne, IsAnswered, WroteFront};
 
 use crate::answers::Looks;
 use crate::reasons::why;

@@ -1,5 +1,5 @@
 -- The statuses of a program whose text doesn't say what came of its input.
-use Rattle.std.specs.Prelude.{ℕ}
+use Rattle.std.specs.Prelude.{◌≡◌, ◌⊎◌, ℕ}
 
 -- a read failed
 abbrev pub read_fault_status : ℕ
@@ -16,3 +16,7 @@ write_fault_status = 10
 -- there was no memory
 abbrev pub no_memory_status : ℕ
 no_memory_status = 11
+
+-- it holds, unless a write failed or there was no memory
+abbrev pub OrYields : ℕ → Type 0 → Type 0
+OrYields status P = P ⊎ ((status ≡ write_fault_status) ⊎ (status ≡ no_memory_status))
