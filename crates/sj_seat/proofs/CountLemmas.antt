@@ -1,15 +1,18 @@
 -- What the lanes of a worker counted, one piece after the other.
 use Rattle.std.proofs.Common.{◌≡◌, ◌∙◌, ℕ, ◌≤◌, inl, inr, Option, Some, None, refl, sym, subst, arith}
 use Rattle.std.specs.Prelude.{slice_get, ◌⊎◌}
+use Rattle.sj_lang.specs.Place.{Place}
+use Rattle.sj_rules.specs.Work.{LostAt}
 use Rattle.sj_lane.specs.declared.lane.Lanes.{Lanes}
+use Rattle.sj_work.specs.Attended.{AttendCause, Attended, AttendedBy}
 use Rattle.sj_work.specs.Causes.{MetFault}
 use Rattle.sj_work.specs.Counts.{OnLane, SomeRose, Stands}
 use Rattle.sj_work.specs.Views.{in_of, out_of, stop_of}
-use Rattle.sj_work.specs.Worked.{Worked, WorkedBy, kept_stop}
+use Rattle.sj_work.specs.Worked.{kept_stop}
 use Rattle.sj_work.specs.declared.worker.Stop.{Stop}
 use Rattle.sj_work.specs.declared.worker.Stop.TheVariants as stops
 use Rattle.sj_work.specs.declared.worker.Worker.{Worker}
-use Rattle.sj_work.proofs.LaneLaws.{CauseBy, LaneLaws, TurnedBy}
+use Rattle.sj_work.proofs.LaneLaws.{LaneLaws}
 use Rattle.sj_seat.specs.Counted.{Counted}
 
 module _ {L : Type 0} (count : L → ℕ) where
@@ -94,18 +97,21 @@ module _ {O I : Type 0} (k : LaneLaws O I) where
     fault = λ is. met_later a b c x y (y.fault is);
   }
 
-  -- turns of a worker
-  counted_turns : (looks : ℕ) (a b : Worker O I) → TurnedBy k looks a b → CountedBy a b
-  counted_turns looks a b t = record {
+  -- a round that met a fault
+  met_fault : (lost : Option (LostAt Place)) (a b : Worker O I) (s : Option Stop) → AttendCause k.outward k.inward s lost a b → s ≡ Some stops.Fault → Met a b
+  met_fault lost a b s cause is = subst (λ (t : Option Stop). AttendCause k.outward k.inward t lost a b) is cause
+
+  counted_attended : (a b : Worker O I) → Attended k.outward k.inward a b → CountedBy a b
+  counted_attended a b t = record {
     outs = t.went.faults_out;
     ins = t.went.faults_in;
-    fault = λ is. inr (subst (λ (s : Option Stop). CauseBy k s looks t.lost a b) is t.cause);
+    fault = λ is. inr (met_fault t.lost a b (stop_of b) t.cause is);
   }
 
-  -- a call of `work`
-  pub counted_work : (looks : ℕ) (a b : Worker O I) → Worked k.outward k.inward looks a b → CountedBy a b
-  counted_work looks a b w = by (kept_stop (stop_of a)) w
+  -- a round of a party with nothing to do of its own
+  pub counted_round : (a b : Worker O I) → AttendedBy k.outward k.inward (kept_stop (stop_of a)) a b → CountedBy a b
+  counted_round a b w = by (kept_stop (stop_of a)) w
     where
-      by : (o : Option Stop) → WorkedBy k.outward k.inward o looks a b → CountedBy a b
-      by None x = counted_turns looks a b x.1
+      by : (o : Option Stop) → AttendedBy k.outward k.inward o a b → CountedBy a b
+      by None x = counted_attended a b x.1
       by (Some stop) same = subst (CountedBy a) (sym same) (counted_itself a)

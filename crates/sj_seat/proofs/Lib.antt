@@ -12,6 +12,7 @@ mod LastLemmas
 mod MovedLemmas
 mod OpeningLemmas
 mod PickLemmas
+mod RoundLemmas
 mod RuleLemmas
 pub mod SessionLemmas
 mod TakenLemmas

@@ -10,10 +10,11 @@ use Rattle.sj_rules.specs.Work.{LostAt}
 use Rattle.sj_seat_laws.specs.Calls.{SeatedAt}
 use Rattle.sj_semantics.specs.declared.Want.TheVariants as wants
 use Rattle.sj_table.specs.Spots.{start_in}
+use Rattle.sj_work.specs.Attended.{Attended, AttendedBy}
 use Rattle.sj_work.specs.Laned.{laned}
 use Rattle.sj_work.specs.Views.{stop_of}
 use Rattle.sj_work.specs.Went.{Went}
-use Rattle.sj_work.specs.Worked.{Turned, Worked, WorkedBy, kept_stop}
+use Rattle.sj_work.specs.Worked.{kept_stop}
 use Rattle.sj_work.specs.declared.worker.Stop.{Stop}
 use Rattle.sj_work.specs.declared.worker.Worker.{Worker}
 use Rattle.sj_work.proofs.LaneLaws.{LaneLaws}
@@ -36,8 +37,8 @@ module _ {O I : Type 0} (k : LaneLaws O I) (a b : Worker O I) (idle : wants_of a
   keeps_so : (lost : Option (LostAt Place)) → Went k.outward k.inward lost a b → Keeps a.node b.node
   keeps_so lost w = record { party = w.party; parties = w.parties; connects = w.connects; table = w.table; clock = w.clock }
 
-  idled_turns : (looks : ℕ) → Turned k.outward k.inward looks a b → Idled k a b
-  idled_turns looks t = record {
+  idled_round : Attended k.outward k.inward a b → Idled k a b
+  idled_round t = record {
     keeps = keeps_so t.lost t.went;
     idle = ap next_want (work_stays (play_here a.node) a.node.party (node_at a.node).program ended k.outward.pushed k.outward.same k.inward.popped k.inward.same (laned a) (laned b) t.lost refl t.went.work) ∙ idle;
     acts = acts_stay (play_here a.node) a.node.party (node_at a.node).program ended k.outward.pushed k.outward.same k.inward.popped k.inward.same (laned a) (laned b) t.lost refl t.went.work;
@@ -49,7 +50,7 @@ module _ {O I : Type 0} (k : LaneLaws O I) (a b : Worker O I) (idle : wants_of a
   }
 
 -- a worker that does nothing
-itself : {O I : Type 0} (k : LaneLaws O I) (a : Worker O I) → wants_of a.node ≡ wants.Ended → Idled k a a
+pub itself : {O I : Type 0} (k : LaneLaws O I) (a : Worker O I) → wants_of a.node ≡ wants.Ended → Idled k a a
 itself k a idle = record {
   keeps = keeps_so k a a idle None (went_itself k a a refl refl);
   idle = idle;
@@ -61,10 +62,10 @@ itself k a idle = record {
   };
 }
 
--- a call of `work`
-pub idled : {O I : Type 0} (k : LaneLaws O I) (a b : Worker O I) → wants_of a.node ≡ wants.Ended → (looks : ℕ) → Worked k.outward k.inward looks a b → Idled k a b
-idled k a b idle looks w = by (kept_stop (stop_of a)) w
+-- a round of a party with nothing to do of its own
+pub idled : {O I : Type 0} (k : LaneLaws O I) (a b : Worker O I) → wants_of a.node ≡ wants.Ended → AttendedBy k.outward k.inward (kept_stop (stop_of a)) a b → Idled k a b
+idled k a b idle w = by (kept_stop (stop_of a)) w
   where
-    by : (o : Option Stop) → WorkedBy k.outward k.inward o looks a b → Idled k a b
-    by None x = idled_turns k a b idle looks x.1
+    by : (o : Option Stop) → AttendedBy k.outward k.inward o a b → Idled k a b
+    by None x = idled_round k a b idle x.1
     by (Some stop) same = subst (Idled k a) (sym same) (itself k a idle)

@@ -11,7 +11,7 @@ use Rattle.sj_table.specs.Spots.{place_in}
 use Rattle.sj_rules.specs.Record.{is_same_end}
 use Rattle.sj_seat_laws.specs.Calls.{Ends}
 use Rattle.sj_seat.specs.declared.ends.HeldEnd.{HeldEnd}
-use Rattle.sj_seat.specs.declared.guards.Guard.{Guard}
+use Rattle.sj_seat.specs.declared.guard.Guard.{Guard}
 
 -- an end at its place in the table
 abbrev pub entry_at : Table → HeldEnd → EndId × Place

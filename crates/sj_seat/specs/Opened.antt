@@ -7,7 +7,7 @@ use Rattle.sj_seat_laws.specs.Calls.{MayOpen}
 use Rattle.sj_table.specs.declared.table.Spot.{Spot}
 use Rattle.sj_table.specs.declared.table.Table.{Table}
 use Rattle.sj_table.specs.Spots.{place_in}
-use Rattle.sj_seat.specs.declared.guards.Guard.{Guard}
+use Rattle.sj_seat.specs.declared.guard.Guard.{Guard}
 use Rattle.sj_seat.specs.declared.openings.Found.{Found}
 use Rattle.sj_seat.specs.declared.openings.Opening.{Opening}
 use Rattle.sj_seat.specs.declared.openings.Openings.{Openings}

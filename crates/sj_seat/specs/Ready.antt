@@ -1,4 +1,5 @@
--- On which of several ends a message is there, what is taken from the first of them, and why nothing is.
+-- Whether a message is there for an end, on which of several one is, what is taken from the first of
+-- them, and why nothing is.
 use Rattle.std.specs.Prelude.{◌≡◌, ◌⊎◌, ℕ, ⊤, List, [], ◌∷◌, length, Option, Some, None, is_some, if◌then◌else◌}
 use Rattle.sj_base.specs.declared.EndId.{EndId}
 use Rattle.sj_lane.specs.declared.lane.OutLane.{Ghosts as OutLane}
@@ -10,7 +11,7 @@ use Rattle.sj_node.specs.declared.node.Node.{Node}
 use Rattle.sj_seat_laws.specs.Calls.{Call, Ends, takes}
 use Rattle.sj_seat_laws.specs.Guards.{want_of_call}
 use Rattle.sj_work.specs.declared.worker.Stop.TheVariants as stops
-use Rattle.sj_seat.specs.Rules.{first_refusal, take_tests}
+use Rattle.sj_seat.specs.Rules.{first_refusal, ready_tests, take_tests}
 use Rattle.sj_seat.specs.Views.{calls_of, ends_of, may_of, node_of}
 use Rattle.sj_seat.specs.Went.{HasNoRow, IsStopped, Went}
 use Rattle.sj_seat.specs.declared.guest.Guest.{Guest}
@@ -33,6 +34,20 @@ first_rule_of calls bs [] = None
 first_rule_of calls bs (e ∷ es) = rule_or (first_refusal (take_tests calls bs e)) (first_rule_of calls bs es)
 
 module _ {O I G : Type 0} where
+  -- the rule that refuses a look for a message, if it does
+  abbrev pub ready_rule : Guest O I G → EndId → Option SeatRefusal
+  ready_rule g e = first_refusal (ready_tests (ends_of g) e)
+
+  -- why no look is had that no rule refuses: the worker stopped for good
+  abbrev pub IsUnseen : SeatRefusal → Guest O I G → Type 0
+  IsUnseen (refusals.Stopped stop) g = IsStopped stop g
+  IsUnseen _ g = ⊥
+
+  -- the rule refuses it, and then nothing happens; where it doesn't, the worker stopped
+  abbrev pub IsReadyRefused : Option SeatRefusal → SeatRefusal → (old new : Guest O I G) → Type 0
+  IsReadyRefused (Some rule) r old new = (r ≡ rule) × (new ≡ old)
+  IsReadyRefused None r old new = IsUnseen r new
+
   -- the same of a guest
   abbrev pub any_rule : Guest O I G → List EndId → Option SeatRefusal
   any_rule g es = first_rule_of (calls_of g) (ends_of g) es

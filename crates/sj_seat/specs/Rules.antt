@@ -64,6 +64,10 @@ take_end_tests calls bs e = (NotHeld, is_missing bs e) ∷ (BeginsOtherwise, not
 abbrev pub close_tests : (calls : ℕ) → Ends → EndId → Tests
 close_tests calls bs e = (NotHeld, is_missing bs e) ∷ (BeginsOtherwise, not (is_done (place_at bs e))) ∷ (AtLimit, is_full calls) ∷ []
 
+-- whether a message is there: the end is held
+abbrev pub ready_tests : Ends → EndId → Tests
+ready_tests bs e = (NotHeld, is_missing bs e) ∷ []
+
 -- by where the party's own end begins, if such a session may be opened
 abbrev pub open_tests : (calls : ℕ) → Option Place → Tests
 open_tests calls begins = (NotOpened, is_none begins) ∷ (AtLimit, is_full calls) ∷ []

@@ -49,7 +49,7 @@ module _ {O I G : Type 0} where
   abbrev pub calls_of : Guest O I G → ℕ
   calls_of g = g.calls
 
-  -- how many texts the file has
+  -- how many texts its code may name
   abbrev pub texts_of : Guest O I G → ℕ
   texts_of g = g.texts
 

@@ -1,8 +1,8 @@
 //! What a builder's code asks for, of every kind, in one call.
-ghost use Rattle.std.specs.Prelude.{◌≡◌, ◌∷◌, IfErr, IfOk, List, None, OnErr, OnOk, length};
+ghost use Rattle.std.specs.Prelude.{◌≡◌, IfErr, IfOk, List, None, OnErr, OnOk, length};
 ghost use Rattle.sj_lang.specs.FileAt.{FileAt};
 ghost use Rattle.sj_node.specs.Reading.{parties_of};
-ghost use Rattle.sj_seat.specs.Asking.{Holds, IsAskRefused, IsFirst, Tells, call_made, first_ask_rule, outcome_of};
+ghost use Rattle.sj_seat.specs.Asking.{Holds, IsAskRefused, IsFirst, Tells, calls_made, first_ask_rule, outcome_of};
 ghost use Rattle.sj_seat.specs.Counted.{Counted};
 ghost use Rattle.sj_seat.specs.Views.{node_of, worker_of};
 ghost use Rattle.sj_seat.specs.Went.{Keeps, Rests, Went};
@@ -22,6 +22,8 @@ pub enum Ask {
     Open(OpenWish),
     /// The next message of the first of these ends on which one is there, which is no end.
     TakeAny(Vec<EndId>),
+    /// Whether a message is there for that end. What came is delivered first, where none is there yet.
+    Ready { end: EndId },
 }
 
 /// What became of a call that is done.
@@ -33,6 +35,8 @@ pub enum Outcome {
     Took { end: EndId, msg: Msg },
     /// The session is open, and this is the party's own end of it.
     Opened { end: EndId },
+    /// Whether a message is there.
+    Ready(bool),
 }
 
 /// What became of what a code asked for; or why nothing of it happened.
@@ -53,10 +57,10 @@ impl<O: OutLane, I: InLane, G: Gate> Guest<'_, O, I, G> {
     /// Does what the code asks for. It waits as long as there are looks. What is refused leaves the
     /// ends and the count of calls as they were.
     pub fn ask(&mut self, ask: &Ask) -> Answer
-        // The call is made, or none is, whatever the code calls later.
+        // The call is made, or none is, whatever the code calls later. To look for a message is none.
         ensures ok { IfOk result (λ o. (file : FileAt) (rest : List calls.Call) →
             length file.parties ≡ parties_of (node_of self.old) →
-            Went O.OutLane I.InLane file (call_made ask.now o ∷ rest) rest self.old self.new) }
+            Went O.OutLane I.InLane file (calls_made ask.now o rest) rest self.old self.new) }
         ensures err { (file : FileAt) (rest : List calls.Call) →
             length file.parties ≡ parties_of (node_of self.old) → OnErr result
             (Went O.OutLane I.InLane file rest rest self.old self.new) }
@@ -64,8 +68,9 @@ impl<O: OutLane, I: InLane, G: Gate> Guest<'_, O, I, G> {
         ensures keeps { Keeps (node_of self.old) (node_of self.new) }
         ensures counts { Counted O.OutLane I.InLane (worker_of self.old) (worker_of self.new) }
 
-        // What it answers is what the last act did. An end that was opened is held, and a take from
-        // several ends is from the first on which a message is there.
+        // What it answers is what the last act did, or whether a message is there. An end that was
+        // opened is held, and a look leaves what is held. A take from several ends is from the first
+        // on which a message is there.
         ensures tells { IfOk result (Tells (worker_of self.new) ask.now) }
         ensures holds { IfOk result (λ o. Holds ask.now o self.old self.new) }
         ensures first { IfOk result (λ o. IsFirst O.OutLane I.InLane ask.now o self.old self.new) }
@@ -85,6 +90,10 @@ impl<O: OutLane, I: InLane, G: Gate> Guest<'_, O, I, G> {
             },
             Ask::TakeAny(ends) => match self.take_any(ends) {
                 Ok((end, msg)) => Ok(Outcome::Took { end, msg }),
+                Err(refusal) => Err(refusal),
+            },
+            Ask::Ready { end } => match self.ready(*end) {
+                Ok(there) => Ok(Outcome::Ready(there)),
                 Err(refusal) => Err(refusal),
             },
         }

@@ -81,7 +81,7 @@ impl<O: OutLane, I: InLane, G: Gate> Guest<'_, O, I, G> {
         }
     }
 
-    /// Sends a number, a truth value or a text of the file.
+    /// Sends a number, a truth value or one of the texts that the code may name.
     pub fn send(&mut self, end: EndId, msg: Msg) -> Result<(), SeatRefusal>
         ensures ok { (file : FileAt) (rest : List calls.Call) →
             length file.parties ≡ parties_of (node_of self.old) → OnOk result

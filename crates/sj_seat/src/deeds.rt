@@ -1,5 +1,5 @@
 //! What a worker does whose party is played by code: deliveries, and a call.
-ghost use Rattle.std.specs.Prelude.{◌≡◌, ◌<◌, IfOk, IfErr, IsErrOf, OnErr, OnOk, Some, is_some, length};
+ghost use Rattle.std.specs.Prelude.{◌≡◌, ◌<◌, IfOk, IfErr, IsErrOf, IsTrue, None, OnErr, OnOk, Some, is_some, length};
 ghost use Rattle.sj_lang.specs.FileAt.{FileAt};
 ghost use Rattle.sj_node.specs.Calls.{place_here};
 ghost use Rattle.sj_node.specs.Node.{Stays, clock_of, wants_of};
@@ -16,15 +16,79 @@ ghost use Rattle.sj_seat_laws.specs.Guards.{called, opened, seated_want};
 ghost use Rattle.sj_semantics.specs.declared.Want.TheVariants as wants;
 ghost use Rattle.sj_work.specs.Laned.{laned};
 ghost use Rattle.sj_work.specs.Views.{node_of, stop_of};
+ghost use Rattle.sj_work.specs.Worked.{kept_stop};
 
 use crate::OpenWish;
 use sj_base::{EndId, Msg};
+use sj_end::CLOCK_END;
 use sj_lane::{InLane, OutLane};
 use sj_node::{Call, Halt};
 use sj_table::Spot;
-use sj_work::{Gate, Stop, Worker, work};
+use sj_work::{Gate, Stop, Worker, attend, push_out};
 
-/// Takes what came, and pushes what waits, until so many turns in a row have no event.
+/// One round: takes what came, and pushes what waits.
+pub(crate) fn deliver<O: OutLane, I: InLane, G: Gate>(worker: &mut Worker<O, I>, gate: &G) -> Stop
+    requires idle { wants_of (node_of worker.old) ≡ wants.Ended }
+    ensures keeps { Keeps (node_of worker.old) (node_of worker.new) }
+    ensures idle { wants_of (node_of worker.new) ≡ wants.Ended }
+    ensures work { (file : FileAt) (s : SeatedAt) →
+        length file.parties ≡ parties_of (node_of worker.old) →
+        SeatWork O.OutLane I.InLane file s s worker.old worker.new }
+    ensures acts { last_act (laned worker.new).log ≡ last_act (laned worker.old).log }
+    ensures counts { Counted O.OutLane I.InLane worker.old worker.new }
+    ensures stop { stop_of worker.new ≡ Some result }
+{
+    attend(worker, gate)
+}
+
+/// Pushes what waits.
+pub(crate) fn push<O: OutLane, I: InLane>(worker: &mut Worker<O, I>)
+    requires idle { wants_of (node_of worker.old) ≡ wants.Ended }
+    ensures keeps { Keeps (node_of worker.old) (node_of worker.new) }
+    ensures idle { wants_of (node_of worker.new) ≡ wants.Ended }
+    ensures work { (file : FileAt) (s : SeatedAt) →
+        length file.parties ≡ parties_of (node_of worker.old) →
+        SeatWork O.OutLane I.InLane file s s worker.old worker.new }
+    ensures acts { last_act (laned worker.new).log ≡ last_act (laned worker.old).log }
+    ensures counts { Counted O.OutLane I.InLane worker.old worker.new }
+{
+    let _ = push_out(worker);
+}
+
+// Whether nothing keeps the party from another round.
+fn may_go_on(stop: Stop) -> bool
+    ensures { IsTrue result → kept_stop (Some stop) ≡ None }
+{
+    matches!(stop, Stop::Finished | Stop::Idle)
+}
+
+// Rounds until one has an event, so many at most, and one at least.
+fn rounds<O: OutLane, I: InLane, G: Gate>(worker: &mut Worker<O, I>, looks: u32, gate: &G) -> Stop
+    requires idle { wants_of (node_of worker.old) ≡ wants.Ended }
+    ensures keeps { Keeps (node_of worker.old) (node_of worker.new) }
+    ensures idle { wants_of (node_of worker.new) ≡ wants.Ended }
+    ensures work { (file : FileAt) (s : SeatedAt) →
+        length file.parties ≡ parties_of (node_of worker.old) →
+        SeatWork O.OutLane I.InLane file s s worker.old worker.new }
+    ensures acts { last_act (laned worker.new).log ≡ last_act (laned worker.old).log }
+    ensures counts { Counted O.OutLane I.InLane worker.old worker.new }
+    ensures stop { stop_of worker.new ≡ Some result }
+{
+    let before = worker.node().clock();
+    for _ in 1..looks {
+        let stop = deliver(worker, gate);
+        if !may_go_on(stop) {
+            return stop;
+        }
+        if worker.node().clock() > before {
+            return stop;
+        }
+    }
+    deliver(worker, gate)
+}
+
+/// Takes what came, and pushes what waits, until so many rounds in a row have no event, and one at
+/// least.
 pub(crate) fn deliver_all<O: OutLane, I: InLane, G: Gate>(
     worker: &mut Worker<O, I>,
     looks: u32,
@@ -40,7 +104,17 @@ pub(crate) fn deliver_all<O: OutLane, I: InLane, G: Gate>(
     ensures counts { Counted O.OutLane I.InLane worker.old worker.new }
     ensures stop { stop_of worker.new ≡ Some result }
 {
-    work(worker, looks, gate)
+    while worker.node().clock() < CLOCK_END {
+        let before = worker.node().clock();
+        let stop = rounds(worker, looks, gate);
+        if !may_go_on(stop) {
+            return stop;
+        }
+        if worker.node().clock() <= before {
+            return stop;
+        }
+    }
+    deliver(worker, gate)
 }
 
 /// Does the call, the guarded one of the party, where the node can. Whatever it refuses, the node is

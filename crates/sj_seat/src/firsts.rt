@@ -19,8 +19,15 @@ use std::alloc::Global;
 /// How many texts a message can name.
 const MAX_TEXTS: usize = 1 << 32;
 
-/// How many words there are, as far as a message can name them.
-pub(crate) fn count_of(words: &Words) -> usize
+/// How many texts the file has, as far as a message can name them.
+pub fn text_count(file: &File) -> usize
+    ensures { result ≡ min (length (file_of file.now).texts) limit_of_texts }
+{
+    count_of(&file.names.texts)
+}
+
+// How many words there are, as far as a message can name them.
+fn count_of(words: &Words) -> usize
     ensures { result ≡ min (length words.now) limit_of_texts }
 {
     for n in 0..MAX_TEXTS {

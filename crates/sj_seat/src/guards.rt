@@ -1,11 +1,10 @@
 //! The rules by which a call is refused, in their order.
-ghost use Rattle.std.specs.Prelude.{◌≡◌, ◌<◌, false, true, IfOk, IfErr, IfSome, None, Some, is_none, option_map, unwrap_or};
+ghost use Rattle.std.specs.Prelude.{◌≡◌, ◌<◌, false, true, IfOk, IfErr, IfSome, None, OnOk, Some, is_none, option_map, unwrap_or};
 ghost use Rattle.sj_lang.specs.Place.{done};
 ghost use Rattle.sj_seat.specs.Asked.{IsGuarded, IsOpenable, asked, want_opening};
 ghost use Rattle.sj_node.specs.Seats.{is_take};
 ghost use Rattle.sj_seat.specs.Holding.{ends_of};
 ghost use Rattle.sj_seat.specs.Opened.{may_of};
-ghost use Rattle.sj_seat.specs.Places.{CarriesPlaces};
 ghost use Rattle.sj_seat.specs.Rules as rules;
 ghost use Rattle.sj_seat.specs.Rules.{is_full, is_missing, names_text, place_at};
 ghost use Rattle.sj_seat.specs.Wishes.{is_taking, open_tests_of, open_wished, tests_of, wished};
@@ -14,31 +13,19 @@ ghost use Rattle.sj_seat_laws.specs.Calls.{place_held};
 ghost use Rattle.sj_seat_laws.specs.Guards.{opened_place, want_of_call};
 ghost use Rattle.sj_table.specs.Spots.{place_in};
 
-use crate::ends::{HeldEnd, spot_held};
+use crate::ends::spot_held;
 use crate::fronts::{begins_with, may_carry, may_send, sends_end, takes_no_end};
-use crate::openings::{Openings, spot_opened};
+use crate::openings::spot_opened;
 use crate::places::carried_spot;
-use crate::{OpenWish, SeatRefusal, Wish};
+use crate::{Guard, OpenWish, SeatRefusal, Wish};
 use sj_base::{EndId, Msg};
 use sj_machine::MAX_STEPS;
 use sj_node::Call;
 use sj_table::{Spot, Table};
 
-/// What the rules ask of a party: the ends that it holds, in the table of their places, the sessions
-/// that it may open, how many texts the file has, and how many calls the party made.
-#[derive(Clone, Copy)]
-pub struct Guard<'a> {
-    pub table: &'a Table,
-    pub ends: &'a [HeldEnd],
-    pub may: &'a Openings,
-    pub texts: usize,
-    pub calls: u32,
-}
-
 impl Guard<'_> {
     /// The node's call that the code asks for, or the first rule that refuses it.
     pub fn check(&self, wish: Wish) -> Result<Call, SeatRefusal>
-        requires carries { CarriesPlaces self.now.table.now }
         ensures call { IfOk result (λ c. asked c ≡ wished wish) }
         ensures takes { IfOk result (λ c. is_take c ≡ is_taking wish) }
         ensures guarded { IfOk result
@@ -173,7 +160,6 @@ impl Guard<'_> {
 
     /// The take of an end, which is held from then on.
     pub fn take_end(&self, end: EndId) -> Result<Call, SeatRefusal>
-        requires carries { CarriesPlaces self.now.table.now }
         ensures call { IfOk result (λ c. asked c ≡ calls.takes end) }
         ensures takes { IfOk result (λ c. is_take c ≡ true) }
         ensures guarded { IfOk result
@@ -194,6 +180,17 @@ impl Guard<'_> {
             (Some(refusal), _) => Err(refusal),
             (None, Some(place)) => Ok(Call::Take { end, place }),
             (None, None) => unreachable!(),
+        }
+    }
+
+    /// Whether the code may ask if a message is there for the end, or the rule that refuses it.
+    pub fn ready(&self, end: EndId) -> Result<(), SeatRefusal>
+        ensures allowed { OnOk result (rules.first_refusal (rules.ready_tests (ends_of self.now) end) ≡ None) }
+        ensures refused { IfErr result (λ r. rules.first_refusal (rules.ready_tests (ends_of self.now) end) ≡ Some r) }
+    {
+        match first_refusal(&[(SeatRefusal::NotHeld, self.is_missing(end))]) {
+            Some(refusal) => Err(refusal),
+            None => Ok(()),
         }
     }
 

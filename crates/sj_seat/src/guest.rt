@@ -22,7 +22,7 @@ pub struct Guest<'a, O, I, G> {
     pub(crate) ends: Vec<HeldEnd>,
     /// The sessions that it may open.
     pub(crate) may: Openings,
-    /// How many texts the file has.
+    /// How many texts its code may name.
     pub(crate) texts: usize,
     pub(crate) calls: u32,
     /// How many turns in vain a call waits.

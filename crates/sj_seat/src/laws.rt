@@ -1,5 +1,5 @@
 //! Laws of the rules: no rule refuses a call exactly where the laws of seats let it happen, a text
-//! is the file's, and there are calls left.
+//! is one that the code may name, and there are calls left.
 ghost use Rattle.std.specs.Prelude.{◌≡◌, ◌↔◌, ◌⊎◌, ◌<◌, ℕ, None, true};
 ghost use Rattle.sj_base.specs.declared.EndId.{EndId};
 ghost use Rattle.sj_base.specs.declared.Msg.{Msg};

@@ -9,6 +9,7 @@ mod deeds;
 mod ends;
 mod firsts;
 mod fronts;
+mod guard;
 mod guards;
 mod guest;
 mod holdings;
@@ -25,8 +26,8 @@ mod wish;
 
 pub use ask::{Answer, Ask, Outcome};
 pub use ends::{HeldEnd, go_on, hold};
-pub use firsts::first_ends;
-pub use guards::Guard;
+pub use firsts::{first_ends, text_count};
+pub use guard::Guard;
 pub use guest::Guest;
 pub use holdings::Holdings;
 pub use kinds::seat_table;

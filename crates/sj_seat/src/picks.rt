@@ -5,7 +5,7 @@ ghost use Rattle.sj_node.specs.Node.{next_head};
 ghost use Rattle.sj_node.specs.Reading.{parties_of};
 ghost use Rattle.sj_seat.specs.Counted.{Counted};
 ghost use Rattle.sj_seat.specs.Logged.{TookLast};
-ghost use Rattle.sj_seat.specs.Ready.{IsAnyRefused, IsCutShort, IsNoneTaken, TookFirst, any_rule, first_there};
+ghost use Rattle.sj_seat.specs.Ready.{IsAnyRefused, IsCutShort, IsNoneTaken, IsReadyRefused, IsUnseen, TookFirst, any_rule, first_there, ready_rule};
 ghost use Rattle.sj_seat.specs.Rules.{first_refusal, take_tests};
 ghost use Rattle.sj_seat.specs.Views.{calls_of, ends_of, node_of, worker_of};
 ghost use Rattle.sj_seat.specs.Went.{Keeps, Rests, Went};
@@ -17,10 +17,10 @@ use sj_lane::{InLane, OutLane};
 use sj_work::Gate;
 
 impl<O: OutLane, I: InLane, G: Gate> Guest<'_, O, I, G> {
-    /// Whether a message is there for the end, which a take could take. Where none is, what came is
-    /// delivered first.
-    pub fn ready(&mut self, end: EndId) -> bool
-        ensures there { result ≡ is_some (next_head (node_of self.new) end) }
+    /// Whether a message is there for an end that the party holds. Where none is there yet, what came
+    /// is delivered first.
+    pub fn ready(&mut self, end: EndId) -> Result<bool, SeatRefusal>
+        ensures there { IfOk result (λ b. b ≡ is_some (next_head (node_of self.new) end)) }
 
         // The code calls nothing, whatever it calls later.
         ensures went { (file : FileAt) (rest : List calls.Call) →
@@ -28,12 +28,37 @@ impl<O: OutLane, I: InLane, G: Gate> Guest<'_, O, I, G> {
             Went O.OutLane I.InLane file rest rest self.old self.new }
         ensures rests { Rests self.old self.new }
         ensures keeps { Keeps (node_of self.old) (node_of self.new) }
+        ensures counts { Counted O.OutLane I.InLane (worker_of self.old) (worker_of self.new) }
+
+        // No rule refuses what is answered; what isn't has its cause.
+        ensures allowed { OnOk result (ready_rule self.old end ≡ None) }
+        ensures cause { IfErr result (λ r.
+            IsReadyRefused (ready_rule self.old end) r self.old self.new) }
+    {
+        match self.guard().ready(end) {
+            Ok(()) => self.look(end),
+            Err(refusal) => Err(refusal),
+        }
+    }
+
+    // The same of any end.
+    fn look(&mut self, end: EndId) -> Result<bool, SeatRefusal>
+        ensures there { IfOk result (λ b. b ≡ is_some (next_head (node_of self.new) end)) }
+        ensures went { (file : FileAt) (rest : List calls.Call) →
+            length file.parties ≡ parties_of (node_of self.old) →
+            Went O.OutLane I.InLane file rest rest self.old self.new }
+        ensures rests { Rests self.old self.new }
+        ensures keeps { Keeps (node_of self.old) (node_of self.new) }
+        ensures counts { Counted O.OutLane I.InLane (worker_of self.old) (worker_of self.new) }
+        ensures cause { IfErr result (λ r. IsUnseen r self.new) }
     {
         if self.worker.node().head(end).is_some() {
-            return true;
+            return Ok(true);
         }
-        let _ = self.wait();
-        self.worker.node().head(end).is_some()
+        match self.wait() {
+            Some(stop) => Err(SeatRefusal::Stopped(stop)),
+            None => Ok(self.worker.node().head(end).is_some()),
+        }
     }
 
     /// The next message of the first of these ends on which one is there, which is no end. It waits

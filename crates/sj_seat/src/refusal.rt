@@ -16,7 +16,7 @@ pub enum SeatRefusal {
     /// The two ends of a delegation are one, or nothing is ahead of the one that is sent.
     #[error("the end can't be sent there")]
     WrongEnd,
-    /// Another kind, a label outside the choice, a text that isn't the file's, or an end whose place
+    /// Another kind, a label outside the choice, a text that the code may not name, or an end whose place
     /// doesn't stand for the carried one.
     #[error("what is sent is of another kind")]
     WrongKind,

@@ -158,7 +158,7 @@ impl<O: OutLane, I: InLane, G: Gate> Guest<'_, O, I, G> {
         }
         match self.make_open(wish, place) {
             Ok(end) => {
-                let _ = self.wait();
+                self.settle(true);
                 Ok(end)
             }
             Err(halt) => Err(self.refused(halt)),

@@ -1,5 +1,5 @@
 //! A party before its first call, and after its last one.
-ghost use Rattle.std.specs.Prelude.{◌≡◌, ◌<◌, IfOk, None, ℕ, length, min, slice_get};
+ghost use Rattle.std.specs.Prelude.{◌≡◌, ◌<◌, IfOk, None, ℕ, length, slice_get};
 ghost use Rattle.sj_check.specs.Held.{file_in};
 ghost use Rattle.sj_lang.specs.FileAt.{body_named};
 ghost use Rattle.sj_lang.specs.FileView.{file_of};
@@ -8,7 +8,6 @@ ghost use Rattle.sj_node.specs.Reading as nodes;
 ghost use Rattle.sj_node.specs.Starting.{BeginsWith, nothing_to_do};
 ghost use Rattle.sj_seat.specs.Opened.{openings_at};
 ghost use Rattle.sj_seat.specs.Places.{CarriesPlaces};
-ghost use Rattle.sj_seat.specs.Rules.{limit_of_texts};
 ghost use Rattle.sj_seat.specs.Views.{calls_of, ends_of, held_by, may_of, node_of, table_of, texts_of, worker_of};
 ghost use Rattle.sj_seat_laws.specs.SeatedStart.{connected_ends, openings_of};
 ghost use Rattle.sj_semantics.specs.declared.Want.TheVariants as wants;
@@ -17,7 +16,7 @@ ghost use Rattle.sj_work.specs.Views as works;
 
 use crate::Guest;
 use crate::ends::HeldEnd;
-use crate::firsts::{count_of, first_ends};
+use crate::firsts::first_ends;
 use crate::openings::{Openings, party_openings};
 use sj_base::NoMemory;
 use sj_check::Accepted;
@@ -70,13 +69,15 @@ impl<'a, O, I, G> Guest<'a, O, I, G> {
     }
 
     /// The party of the file before its first call, with these lanes, over the table that all nodes
-    /// of the run have.
+    /// of the run have. Its code may name so many texts: those of the file (`text_count`), or more where
+    /// it adds some.
     pub fn start(
         alloc: Global,
         accepted: &Accepted,
         table: &Table,
         party: u16,
         lanes: Lanes<O, I>,
+        texts: usize,
         looks: u32,
         gate: &'a G,
     ) -> Result<Guest<'a, O, I, G>, NoMemory>
@@ -102,13 +103,11 @@ impl<'a, O, I, G> Guest<'a, O, I, G> {
             (nothing_to_do (file_of (file_in accepted.now))) (node_of g)) }
         ensures lanes { IfOk result (λ g. works.lanes_of (worker_of g) ≡ lanes) }
         ensures stop { IfOk result (λ g. works.stop_of (worker_of g) ≡ None) }
-        ensures texts { IfOk result (λ g. texts_of g
-            ≡ min (length (file_of (file_in accepted.now)).texts) limit_of_texts) }
+        ensures texts { IfOk result (λ g. texts_of g ≡ texts) }
     {
         let file = accepted.file();
         let ends = first_ends(alloc, file, table, party)?;
         let may = party_openings(alloc, file, table, party)?;
-        let texts = count_of(&file.names.texts);
         let node = Node::seated(alloc, accepted, table.copied()?, party)?;
         let worker = Worker::new(node, lanes);
         Ok(Guest::new(worker, table.copied()?, ends, may, texts, looks, gate))

@@ -16,7 +16,7 @@ ghost use Rattle.sj_work.specs.Laned.{laned};
 ghost use Rattle.sj_work.specs.Views.{stop_of};
 ghost use Rattle.sj_work.specs.Worked.{kept_stop};
 
-use crate::deeds::{deliver_all, do_call};
+use crate::deeds::{deliver, do_call, push};
 use crate::ends::go_on;
 use crate::{Guest, SeatRefusal};
 use sj_base::Msg;
@@ -26,8 +26,7 @@ use sj_node::{Call, Halt};
 use sj_work::{Gate, Stop};
 
 impl<O: OutLane, I: InLane, G: Gate> Guest<'_, O, I, G> {
-    /// Takes what came, and pushes what waits, until a turn has no event. Answers the stop that stays,
-    /// if any.
+    /// One round: takes what came, and pushes what waits. Answers the stop that stays, if any.
     pub(crate) fn wait(&mut self) -> Option<Stop>
         ensures went { (file : FileAt) (rest : List calls.Call) →
             length file.parties ≡ parties_of (node_of self.old) →
@@ -40,15 +39,15 @@ impl<O: OutLane, I: InLane, G: Gate> Guest<'_, O, I, G> {
         ensures none { result ≡ None → kept_stop (stop_of (worker_of self.new)) ≡ None }
         ensures some { IfSome result (λ s. stop_of (worker_of self.new) ≡ Some s) }
     {
-        let stop = deliver_all(&mut self.worker, 1, self.gate);
+        let stop = deliver(&mut self.worker, self.gate);
         match stop {
             Stop::ClockEnd | Stop::NoMemory | Stop::Fault | Stop::Unfit => Some(stop),
             Stop::Finished | Stop::Idle | Stop::AtLimit => None,
         }
     }
 
-    /// The same after a call that posted something; else nothing.
-    fn settle(&mut self, posted: bool)
+    /// Pushes what waits after a call that posted something; else nothing.
+    pub(crate) fn settle(&mut self, posted: bool)
         ensures went { (file : FileAt) (rest : List calls.Call) →
             length file.parties ≡ parties_of (node_of self.old) →
             Went O.OutLane I.InLane file rest rest self.old self.new }
@@ -59,7 +58,7 @@ impl<O: OutLane, I: InLane, G: Gate> Guest<'_, O, I, G> {
         ensures counts { Counted O.OutLane I.InLane (worker_of self.old) (worker_of self.new) }
     {
         if posted {
-            let _ = self.wait();
+            push(&mut self.worker);
         }
     }
 

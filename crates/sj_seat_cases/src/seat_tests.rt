@@ -6,7 +6,7 @@ use sj_lane::{Lanes, Links, RingIn, RingLinks, RingOut};
 use sj_node::Node;
 use sj_party::parse_file;
 use sj_proto::Tokens;
-use sj_seat::{Guest, Opening, SeatRefusal, carries_places};
+use sj_seat::{Guest, Opening, SeatRefusal, carries_places, text_count};
 use sj_work::{NoGate, Stop, Worker, work};
 use std::alloc::Global;
 use std::test::Fail;
@@ -48,6 +48,13 @@ party a { request x p to b; send x 5; close x; accept z q from b; recv z n int; 
 party b { accept y q from a; recv y n int; close y; request w p to a; send w 7; close w; }
 ";
 
+// a opens a session to b, which holds no end before.
+const ASKED: &[u8] = b"protocol p { begin.!<int> }
+protocol q { begin.?(int) }
+party a { request x p to b; send x 5; close x; }
+party b { accept y q from a; recv y n int; close y; }
+";
+
 // Two parties each send c a number.
 const TWO: &[u8] = b"protocol p { begin.!<int> }
 protocol q { begin.?(int) }
@@ -73,6 +80,9 @@ const U: EndId = EndId { sess: 1, side: 1 };
 const OWN: EndId = EndId { sess: 64, side: 0 };
 
 const OFFERED: EndId = EndId { sess: 164, side: 1 };
+
+/// b's end of the session that a opens first.
+const GIVEN: EndId = EndId { sess: 64, side: 1 };
 
 fn accepted(alloc: Global, text: &[u8]) -> Result<Accepted, Fail> {
     if text.len() > Tokens::MOST_BYTES {
@@ -112,7 +122,8 @@ fn seated(
         return Err(Fail::from("a place isn't in the table"));
     }
     let lanes = lanes.ok_or("no lanes")?;
-    Ok(Guest::start(alloc, accepted, table, party, lanes, 1, &NoGate)?)
+    let texts = text_count(accepted.file());
+    Ok(Guest::start(alloc, accepted, table, party, lanes, texts, 1, &NoGate)?)
 }
 
 fn first_of(openings: &[Opening]) -> Result<Opening, Fail> {
@@ -220,6 +231,25 @@ fn code_opens_a_session_and_accepts_one(rt: HostRuntime) -> Result<(), Fail> {
 }
 
 #[test]
+fn code_that_holds_no_end_accepts_a_session(rt: HostRuntime) -> Result<(), Fail> {
+    let alloc = rt.alloc();
+    let accepted = accepted(alloc, ASKED)?;
+    let mut lanes = RingLinks::new().make(alloc, 2)?;
+    let mut b = seated(alloc, &accepted, 1, lanes.pop())?;
+    let mut a = hired(alloc, &accepted, 0, lanes.pop())?;
+    let offer = first_of(&b.guard().may.accepts)?;
+    assert_eq!(rt; b.ends().len(), 0);
+    assert_eq!(rt; b.accept(0, offer.protocol), Err(SeatRefusal::Waiting));
+    work(&mut a, 1, &NoGate);
+    assert_eq!(rt; b.accept(0, offer.protocol), Ok(GIVEN));
+    assert_eq!(rt; b.take(GIVEN), Ok(Msg::Int(5)));
+    assert_eq!(rt; b.close(GIVEN), Ok(()));
+    assert_eq!(rt; b.ends().len(), 0);
+    assert_eq!(rt; work(&mut a, 1, &NoGate), Stop::Finished);
+    Ok(())
+}
+
+#[test]
 fn code_takes_from_the_end_that_has_a_message(rt: HostRuntime) -> Result<(), Fail> {
     let alloc = rt.alloc();
     let accepted = accepted(alloc, TWO)?;
@@ -228,8 +258,9 @@ fn code_takes_from_the_end_that_has_a_message(rt: HostRuntime) -> Result<(), Fai
     let mut b = hired(alloc, &accepted, 1, lanes.pop())?;
     assert!(rt; matches!(c.take_any(&[Y, U]), Err(SeatRefusal::Waiting)));
     work(&mut b, 1, &NoGate);
-    assert!(rt; c.ready(U));
-    assert!(rt; !c.ready(Y));
+    assert_eq!(rt; c.ready(U), Ok(true));
+    assert_eq!(rt; c.ready(Y), Ok(false));
+    assert_eq!(rt; c.ready(X), Err(SeatRefusal::NotHeld));
     let Ok((end, msg)) = c.take_any(&[Y, U]) else {
         return Err(Fail::from("nothing was taken"));
     };

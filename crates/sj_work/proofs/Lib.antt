@@ -1,3 +1,4 @@
+pub mod AttendLemmas
 pub mod CauseLemmas
 pub mod CountLemmas
 pub mod HaltLemmas
@@ -7,10 +8,12 @@ pub mod LookLemmas
 pub mod NodeLemmas
 pub mod NoteLemmas
 pub mod OnLemmas
+pub mod PieceLemmas
 pub mod PushLemmas
 pub mod RestLemmas
 pub mod SendLemmas
 pub mod StopLemmas
+pub mod TakeLemmas
 pub mod TurnLemmas
 pub mod VainLemmas
 pub mod WentLemmas

@@ -1,64 +1,45 @@
 -- Pieces of a turn: each way in which one ends, and one after the other.
-use Rattle.std.proofs.Common.{rules, ◌≡◌, ℕ, ◌<◌, ◌≤◌, max, List, [], ◌∷◌, if◌then◌else◌, Option, Some, None, Err, inl, inr, refl, ap, sym, ◌∙◌, subst}
+use Rattle.std.proofs.Common.{rules, ◌≡◌, ℕ, ◌≤◌, List, if◌then◌else◌, Option, Some, None, Err, inl, refl, ap, sym, ◌∙◌, subst}
 use Rattle.std.specs.Prelude.{IsSome, slice_get}
 use Rattle.std.proofs.Math.ListN.{set}
-use Rattle.sj_lang.specs.Place.{Place, done}
-use Rattle.sj_table.specs.Spots.{place_in, start_in}
+use Rattle.sj_lang.specs.Place.{Place}
+use Rattle.sj_table.specs.Spots.{start_in}
 use Rattle.sj_end.specs.declared.wire.Frame.{Frame}
-use Rattle.sj_end.specs.Views.{frame_at}
-use Rattle.sj_rules.specs.Frames.{FrameAt, is_proper}
 use Rattle.sj_rules.specs.Limits.{clock_end}
-use Rattle.sj_rules.specs.Mapped.{body_with, frame_with}
-use Rattle.sj_rules.specs.Node.{acts, arrives, comes_or_opens}
+use Rattle.sj_rules.specs.Node.{acts}
 use Rattle.sj_rules.specs.Work.{LostAt}
-use Rattle.sj_joined_lemmas.proofs.LimitLemmas.{same_arrives}
 use Rattle.sj_lane.specs.declared.lane.PushRefusal.{PushRefusal}
 use Rattle.sj_lane.specs.declared.lane.PushRefusal.TheVariants as pushes
-use Rattle.sj_lane.specs.Told.{PushCause, Rose, told_frame, vain_push}
+use Rattle.sj_lane.specs.Told.{PushCause, vain_push}
 use Rattle.sj_node.specs.declared.node.Node.{Node}
 use Rattle.sj_node.specs.declared.refusal.Halt.{Halt}
 use Rattle.sj_node.specs.declared.refusal.Halt.TheVariants as halts
 use Rattle.sj_node.specs.Node as nodes
-use Rattle.sj_node.specs.Node.{Stays, act_of, clock_of, delivery, has_room, node_at}
+use Rattle.sj_node.specs.Node.{Stays, act_of, clock_of, has_room}
 use Rattle.sj_node.specs.Play.{next_want, play_with}
-use Rattle.sj_node.specs.Reading.{IsFinished, parties_of}
+use Rattle.sj_node.specs.Reading.{IsFinished}
 use Rattle.sj_work.specs.declared.worker.Outcome.{Outcome}
 use Rattle.sj_work.specs.declared.worker.Outcome.TheVariants as answers
 use Rattle.sj_work.specs.declared.worker.Stop.{Stop}
 use Rattle.sj_work.specs.declared.worker.Stop.TheVariants as stops
 use Rattle.sj_work.specs.declared.worker.Worker.{Worker}
-use Rattle.sj_work.specs.Answers.{TakesFrame, Delivered, SaysHalt, SeesFinished, push_answer}
+use Rattle.sj_work.specs.Answers.{SaysHalt, SeesFinished, push_answer}
 use Rattle.sj_work.specs.Causes.{Loses}
 use Rattle.sj_work.specs.Counts.{RoseBy, SomeRose}
 use Rattle.sj_work.specs.Turns.{IsGoing}
-use Rattle.sj_work.specs.Views.{in_of, line_in, stop_at, out_of, stop_in, stop_of}
+use Rattle.sj_work.specs.Views.{line_in, out_of, stop_in, stop_of}
 use Rattle.sj_work.specs.Worked.{Worked, WorkedBy, kept_stop}
 use Rattle.sj_work.proofs.CauseLemmas.{cause_later}
 use Rattle.sj_work.proofs.CountLemmas.{rose_raised, some_rose}
 use Rattle.sj_work.proofs.HaltLemmas.{Refused, finished_before}
-use Rattle.sj_work.proofs.LaneLaws.{CauseBy, InDid, LaneLaws, TurnedBy, WentBy}
-use Rattle.sj_work.proofs.LaneLemmas.{told_with, none_is as not_none}
-use Rattle.sj_work.proofs.NodeLemmas.{arrives_so, came_stepped, stays_quiet}
-use Rattle.sj_work.proofs.WentLemmas.{went_again, went_came, went_itself, went_later, went_lost, went_still}
+use Rattle.sj_work.proofs.LaneLaws.{CauseBy, LaneLaws, TurnedBy, WentBy}
+use Rattle.sj_work.proofs.LaneLemmas.{none_is as not_none}
+use Rattle.sj_work.proofs.NodeLemmas.{stays_quiet}
+use Rattle.sj_work.proofs.WentLemmas.{went_again, went_itself, went_later, went_still}
 
 -- nodes alike act alike
 act_same : (a b : Node) → Stays a b → act_of b ≡ act_of a
 act_same a b s = λ i. if has_room (s.node i).main (next_want (s.node i).program) then acts (play_with (start_in (s.table i)) (s.connects i) (s.parties i)) (s.party i) (s.node i) else None
-
--- and take frames alike
-delivery_same : (a b : Node) (from : ℕ) (f : Frame) → Stays a b → delivery b from (frame_at f) ≡ delivery a from (frame_at f)
-delivery_same a b from f s = λ i. if is_proper (s.parties i) (frame_at f) then comes_or_opens done max (s.node i) from (body_with (place_in (s.table i)) (frame_at f).body) else None
-
--- what the rules make of a frame is what they make of it as a lane reports it
-arrives_told : (n : Node) (from : ℕ) (f : Frame) → arrives done (parties_of n) max (node_at n) from (told_frame f) ≡ delivery n from (frame_at f)
-arrives_told n from f =
-    same_arrives done (parties_of n) max done (node_at n) from (told_frame f) (frame_with (place_in n.table) (frame_at f))
-    (told_with (λ s. done) (frame_at f) ∙ sym (told_with (place_in n.table) (frame_at f))) ∙ arrives_so n from (frame_at f)
-
--- a frame that didn't stop the worker raised the clock
-pub came_rises : (a b : Node) (from : ℕ) (f : Frame) (r : Option Outcome) → TakesFrame from f a b r → stop_in r ≡ None → clock_of a < clock_of b
-came_rises a b from f None came none = (came_stepped a b from (frame_at f) came.0).rises
-came_rises a b from f (Some answer) came none = absurd (not_none (stop_at answer) (sym none))
 
 -- where a refused push didn't stop the worker, the lane was full
 pub full_vain : (x y : ℕ) (g : Frame) (why : PushRefusal) (r : Option Outcome) → r ≡ push_answer why → stop_in r ≡ None → y ≡ vain_push x (Err (g, why)) → RoseBy 1 x y
@@ -149,33 +130,6 @@ module _ {O I : Type 0} (k : LaneLaws O I) where
       turned_off a b None stops.Unfit looks (ap stop_in (is ∙ says.1)) (λ e. cc e) (stays_open a b goes s) (went_still k a b (stays_quiet a.node b.node s) s.posts lanes) tt
       (free refl, act_same a.node b.node s ∙ unfit refl, ap line_in (is ∙ says.1) ∙ says.2)
 
-  -- a frame that was popped, and delivered or lost
-  pub frame_came : (a b : Worker O I) (from : ℕ) (f : Frame) (i j : I) (r : Option Outcome) → IsGoing a → TakesFrame from f a.node b.node r → b.answer ≡ r → b.lanes.outs.items ≡ a.lanes.outs.items
-      → in_of a from ≡ Some i → b.lanes.ins.items ≡ set a.lanes.ins.items from j → InDid k i j (told_frame f ∷ []) → from < parties_of a.node → clock_of a.node < clock_end
-      → (looks : ℕ) → TurnedBy k looks a b
-  frame_came a b from f i j r goes came is outs at put did within before = by r came is
-    where
-      delivered : Delivered from f a.node b.node → WentBy k None a b
-      delivered does =
-          went_came k a b from (frame_with (place_in a.node.table) (frame_at f)) i j (came_stepped a.node b.node from (frame_at f) does) outs at put
-          (subst (λ (m : FrameAt Place). InDid k i j (m ∷ [])) (sym (told_with (place_in a.node.table) (frame_at f))) did) within before
-
-      lost_so : Stays a.node b.node → WentBy k (Some (record { party = from; frame = told_frame f })) a b
-      lost_so s = went_lost k a b from (told_frame f) i j (stays_quiet a.node b.node s) s.posts outs at put did within before
-
-      by : (r : Option Outcome) → TakesFrame from f a.node b.node r → b.answer ≡ r → (looks : ℕ) → TurnedBy k looks a b
-      by None c is = turned_on a b (delivered c.0) (ap stop_in is) c.1
-      by (Some answers.Finished) c is = turned_seen a b (Some answers.Finished) is c.1 (delivered c.0)
-      by (Some answers.NoMemory) c is = λ looks.
-          turned_off a b (Some (record { party = from; frame = told_frame f })) stops.NoMemory looks (ap stop_in is) (λ e. cc e) (stays_open a b goes c) (lost_so c) tt tt
-      by (Some (answers.Unfit line)) c is = λ looks.
-          turned_off a b (Some (record { party = from; frame = told_frame f })) stops.Unfit looks (ap stop_in is) (λ e. cc e) (stays_open a b goes c.0) (lost_so c.0) tt
-          (subst (λ (n : ℕ). from < n) (sym c.0.parties) within, arrives_told b.node from f ∙ delivery_same a.node b.node from f c.0 ∙ c.1, ap line_in is ∙ ap Some c.2)
-      by (Some answers.Idle) c is = absurd c
-      by (Some answers.AtLimit) c is = absurd c
-      by (Some answers.ClockEnd) c is = absurd c
-      by (Some answers.Fault) c is = absurd c
-
   -- a frame that a lane refused, and that is back in its outbox
   pub push_refused : (a b : Worker O I) (to : ℕ) (o p : O) (g : Frame) (why : PushRefusal) → (IsFinished b.node → ⊥) → WentBy k None a b → b.answer ≡ push_answer why
       → PushCause (k.outward.faults o) (k.outward.faults p) (Err (g, why)) → out_of a to ≡ Some o → b.lanes.outs.items ≡ set a.lanes.outs.items to p → (looks : ℕ) → TurnedBy k looks a b
@@ -195,13 +149,6 @@ module _ {O I : Type 0} (k : LaneLaws O I) where
 
   pub gone_more : (looks : ℕ) (init now next : Worker O I) → Gone looks init now → TurnedBy k looks now next → stop_of next ≡ None → Gone looks init next
   gone_more looks init now next g t none = record { went = went_later k init now next None g.went (went_so looks now next t none); goes = going looks now next t none }
-
-  -- a pop that a lane refused for a fault
-  pub pop_fault : (a b : Worker O I) (from : ℕ) (i j : I) → IsGoing a → WentBy k None a b → b.node ≡ a.node → stop_of b ≡ Some stops.Fault → in_of a from ≡ Some i → b.lanes.ins.items ≡ set a.lanes.ins.items from j
-      → Rose (k.inward.faults i) (k.inward.faults j) → (looks : ℕ) → TurnedBy k looks a b
-  pop_fault a b from i j goes went node is at put rose looks =
-      turned_off a b None stops.Fault looks is (λ e. cc e) (λ f. goes.open_yet (subst (λ (n : Node). IsFinished n) node f)) went tt
-      (inr (subst (λ (xs : List I). SomeRose k.inward.faults (in_of a) (slice_get xs)) (sym put) (some_rose k.inward.faults a.lanes.ins.items from i j at rose)))
 
   pub gone_turned : (looks : ℕ) (init now next : Worker O I) → Gone looks init now → TurnedBy k looks now next → TurnedBy k looks init next
   gone_turned looks init now next g t = turned_behind looks init now next g.went t

@@ -57,11 +57,11 @@ Delivered origin f old new = Does old (delivery old origin (frame_at f)) (max (c
 
 -- a frame was delivered, or refused and lost
 abbrev pub TakesFrame : (origin : ℕ) → Frame → (old new : Node) → Option Outcome → Type 0
-TakesFrame origin f old new None = Delivered origin f old new × (IsFinished new → ⊥)
-TakesFrame origin f old new (Some answers.Finished) = Delivered origin f old new × IsFinished new
+TakesFrame origin f old new None = Delivered origin f old new
 TakesFrame origin f old new (Some answers.NoMemory) = Stays old new
 TakesFrame origin f old new (Some (answers.Unfit line)) =
     Stays old new × (delivery old origin (frame_at f) ≡ None) × (line ≡ lost_line new (record { party = origin; frame = told_frame f }))
+TakesFrame origin f old new (Some answers.Finished) = ⊥
 TakesFrame origin f old new (Some answers.Idle) = ⊥
 TakesFrame origin f old new (Some answers.AtLimit) = ⊥
 TakesFrame origin f old new (Some answers.ClockEnd) = ⊥

@@ -1,8 +1,10 @@
 pub mod Answers
+pub mod Attended
 pub mod Causes
 pub mod Counts
 pub mod Laned
 pub mod Lending
+pub mod Pieces
 pub mod Turns
 pub mod Views
 pub mod Went

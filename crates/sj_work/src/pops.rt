@@ -1,17 +1,18 @@
 //! Pops, and their deliveries.
-ghost use Rattle.std.specs.Prelude.{◌≡◌, ◌<◌, IsFalse, IsTrue, None};
+ghost use Rattle.std.specs.Prelude.{◌≡◌, ◌<◌, IsFalse, IsSome, IsTrue, None, Some};
 ghost use Rattle.sj_lane.specs.Told.{told_frame};
 ghost use Rattle.sj_node.specs.Node.{clock_of};
-ghost use Rattle.sj_node.specs.Reading.{parties_of};
+ghost use Rattle.sj_node.specs.Reading.{IsFinished, parties_of};
 ghost use Rattle.sj_work.specs.Answers.{TakesFrame, delivery_answer};
 ghost use Rattle.sj_work.specs.Counts.{OnLane, RoseBy};
+ghost use Rattle.sj_work.specs.Pieces.{Pieces};
 ghost use Rattle.sj_work.specs.Turns.{IsGoing, Turns};
 ghost use Rattle.sj_work.specs.Views.{in_of, looks_of, node_of, stop_of};
 ghost use Rattle.sj_work.specs.Went.{InVain};
 ghost use Rattle.sj_rules.specs.Limits.{clock_end};
 
 use crate::acts::{finished, show};
-use crate::worker::{AT_ONCE, Gate, Outcome, Worker};
+use crate::worker::{AT_ONCE, Gate, Outcome, Stop, Worker};
 use sj_end::{CLOCK_END, Entry, Event, Frame, Line, note_of};
 use sj_lane::{InLane, OutLane, PopRefusal};
 use sj_node::{DeliverRefusal, Node};
@@ -42,17 +43,24 @@ fn deliver<G: Gate>(node: &mut Node, from: u16, frame: Frame, gate: &G) -> Optio
     match node.deliver(from, frame) {
         Ok(()) => {
             show(node, gate);
-            finished(node)
+            None
         }
         Err((frame, refusal)) => Some(refused(node, from, &frame, refusal)),
     }
 }
 
-// One pop, and its delivery. Answers whether a frame came.
-fn look<O: OutLane, I: InLane, G: Gate>(worker: &mut Worker<O, I>, from: u16, gate: &G) -> bool
-    requires goes { IsGoing worker.old }
+/// One pop, and its delivery, whether the node is finished or not. Answers whether a frame came.
+pub(crate) fn look<O: OutLane, I: InLane, G: Gate>(
+    worker: &mut Worker<O, I>,
+    from: u16,
+    gate: &G,
+) -> bool
+    requires stop { stop_of worker.old ≡ None }
     requires party { from < parties_of (node_of worker.old) }
-    ensures turns { Turns O.OutLane I.InLane worker.old worker.new }
+    ensures pieces { Pieces O.OutLane I.InLane worker.old worker.new }
+    ensures other { stop_of worker.new ≡ Some Stop.Finished → ⊥ }
+    ensures before { IsSome (stop_of worker.new) →
+        IsFinished (node_of worker.new) → IsFinished (node_of worker.old) }
     ensures event { IsTrue result → stop_of worker.new ≡ None →
         clock_of (node_of worker.old) < clock_of (node_of worker.new) }
     ensures rests { IsFalse result → node_of worker.new ≡ node_of worker.old }
@@ -85,9 +93,8 @@ fn look<O: OutLane, I: InLane, G: Gate>(worker: &mut Worker<O, I>, from: u16, ga
     }
 }
 
-// Pops from that party as long as frames come, as many as one turn has at most, and their
-// deliveries. Answers whether a frame came.
-fn look_on<O: OutLane, I: InLane, G: Gate>(worker: &mut Worker<O, I>, from: u16, gate: &G) -> bool
+// The same of a worker that goes on, which stops where its node is finished then.
+fn look_one<O: OutLane, I: InLane, G: Gate>(worker: &mut Worker<O, I>, from: u16, gate: &G) -> bool
     requires goes { IsGoing worker.old }
     requires party { from < parties_of (node_of worker.old) }
     ensures turns { Turns O.OutLane I.InLane worker.old worker.new }
@@ -101,11 +108,34 @@ fn look_on<O: OutLane, I: InLane, G: Gate>(worker: &mut Worker<O, I>, from: u16,
     if !look(worker, from, gate) {
         return false;
     }
+    if worker.answer.is_some() {
+        return true;
+    }
+    worker.answer = finished(&worker.node);
+    true
+}
+
+// Pops from that party as long as frames come, as many as one turn has at most, and their
+// deliveries. Answers whether a frame came.
+fn look_on<O: OutLane, I: InLane, G: Gate>(worker: &mut Worker<O, I>, from: u16, gate: &G) -> bool
+    requires goes { IsGoing worker.old }
+    requires party { from < parties_of (node_of worker.old) }
+    ensures turns { Turns O.OutLane I.InLane worker.old worker.new }
+    ensures event { IsTrue result → stop_of worker.new ≡ None →
+        clock_of (node_of worker.old) < clock_of (node_of worker.new) }
+    ensures rests { IsFalse result → node_of worker.new ≡ node_of worker.old }
+    ensures vain { IsFalse result → stop_of worker.new ≡ None →
+        OnLane I.vain (RoseBy 1) (in_of worker.old from) (in_of worker.new from) }
+    ensures looks { looks_of worker.new ≡ looks_of worker.old }
+{
+    if !look_one(worker, from, gate) {
+        return false;
+    }
     for _ in 1..AT_ONCE {
         if worker.answer.is_some() {
             return true;
         }
-        if !look(worker, from, gate) {
+        if !look_one(worker, from, gate) {
             return true;
         }
     }

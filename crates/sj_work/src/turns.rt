@@ -94,8 +94,8 @@ pub fn work<O: OutLane, I: InLane, G: Gate>(worker: &mut Worker<O, I>, looks: u3
     }
 }
 
-// The stop that stays, if any.
-fn kept(stop: Option<Stop>) -> Option<Stop>
+/// The stop that stays, if any.
+pub(crate) fn kept(stop: Option<Stop>) -> Option<Stop>
     ensures { result ≡ kept_stop stop }
 {
     match stop {

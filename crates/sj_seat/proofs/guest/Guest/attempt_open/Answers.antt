@@ -56,7 +56,7 @@ returns-in-Ok-clause-ok g c =
     let k = laws g.O.OutLane g.I.InLane ol.same_itself ol.same_later il.same_itself il.same_later in
     let a = c.args.self.now in
     let m = c.make_open.new.self in
-    let b = c.wait.new.self in
+    let b = c.settle.new.self in
     let h = c.in-Ok.ensures in
     let kept : kept_stop (stop_of m.worker) ≡ None = ap kept_stop h.stop ∙ c.stopped.ensures.none c.in_default.is in
     λ file rest parties.
@@ -64,18 +64,18 @@ returns-in-Ok-clause-ok g c =
     let made : SeatWork g.O.OutLane g.I.InLane file before (seat_of rest m) a.worker m.worker =
     subst (λ (s : SeatedAt). SeatWork g.O.OutLane g.I.InLane file s (seat_of rest m) a.worker m.worker)
     (λ i. record { ends = ends_at a.table (c.reserve.ensures.items i); steps = a.calls; calls = open_wished c.args.wish ∷ rest; may = may_of a }) (h.ok file rest parties) in
-    done_after k file before (seat_of rest m) (seat_of rest b) a.worker m.worker b.worker kept h.keeps.party made (c.wait.ensures.went file rest (parties ∙ sym h.keeps.parties))
+    done_after k file before (seat_of rest m) (seat_of rest b) a.worker m.worker b.worker kept h.keeps.party made (c.settle.ensures.went file rest (parties ∙ sym h.keeps.parties))
 
 pub returns-in-Ok-clause-counts : goal.returns-in-Ok-clause-counts
 returns-in-Ok-clause-counts g c =
     let ol = g.met.O.OutLane g.world.𝓛 g.world.𝓜 g.world.𝓡 (λ s x. x, λ x. x, λ x. x, λ x. x) in
     let il = g.met.I.InLane g.world.𝓛 g.world.𝓜 g.world.𝓡 (λ s x. x, λ x. x, λ x. x, λ x. x) in
     let k = laws g.O.OutLane g.I.InLane ol.same_itself ol.same_later il.same_itself il.same_later in
-    counted_later k c.args.self.now.worker c.make_open.new.self.worker c.wait.new.self.worker c.in-Ok.ensures.counts c.wait.ensures.counts
+    counted_later k c.args.self.now.worker c.make_open.new.self.worker c.settle.new.self.worker c.in-Ok.ensures.counts c.settle.ensures.counts
 
 pub returns-in-Ok-clause-keeps : goal.returns-in-Ok-clause-keeps
 returns-in-Ok-clause-keeps g c =
-    keeps_later c.args.self.now.worker.node c.make_open.new.self.worker.node c.wait.new.self.worker.node c.in-Ok.ensures.keeps c.wait.ensures.keeps
+    keeps_later c.args.self.now.worker.node c.make_open.new.self.worker.node c.settle.new.self.worker.node c.in-Ok.ensures.keeps c.settle.ensures.keeps
 
 pub returns-in-Err : goal.returns-in-Err
 returns-in-Err g c =

@@ -5,7 +5,7 @@ use Rattle.sj_seat.specs.Holding.{ends_of}
 use Rattle.sj_seat.specs.Opened.{may_of, spot_opened}
 use Rattle.sj_seat.specs.Wishes.{open_wished}
 use Rattle.sj_seat.proofs.SessionLemmas.{opening_begins, opening_there, opening_wants, placed}
-use Rattle.sj_seat.proofs.guards.Guard.place_to_open.Goals as goal
+use Rattle.sj_seat.proofs.guard.Guard.place_to_open.Goals as goal
 
 pub returns-in-Request-clause-there : goal.returns-in-Request-clause-there
 returns-in-Request-clause-there c =

@@ -1,0 +1,10 @@
+use Rattle.sj_work.proofs.LaneLaws.{laws}
+use Rattle.sj_seat.proofs.RoundLemmas.{Rounded}
+use Rattle.sj_seat.proofs.deeds.rounds.Given as goal
+
+abbrev pub invariant-loop : goal.invariant-loop
+invariant-loop g l =
+    let ol = g.met.O.OutLane g.world.𝓛 g.world.𝓜 g.world.𝓡 (λ s x. x, λ x. x, λ x. x, λ x. x) in
+    let il = g.met.I.InLane g.world.𝓛 g.world.𝓜 g.world.𝓡 (λ s x. x, λ x. x, λ x. x, λ x. x) in
+    let k = laws g.O.OutLane g.I.InLane ol.same_itself ol.same_later il.same_itself il.same_later in
+    Rounded k l.fn.worker l.worker
