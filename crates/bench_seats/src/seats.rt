@@ -6,7 +6,7 @@ use crate::player::Player;
 use crate::timed::Timed;
 use sj_check::Accepted;
 use sj_lane::RingLinks;
-use sj_seat_run::run_seated;
+use sj_seat_run::{run_seated, text_count};
 use sj_work::NoGate;
 use std::alloc::Global;
 use std::thread::Threads;
@@ -33,7 +33,10 @@ fn one_run<R: Threads + Clock + Sync>(
     codes.push(Some(Player::new(rt, kind, false, turns))).ok()?;
     let began = now(rt);
     let mut links = RingLinks::new();
-    let Ok(run) = run_seated(rt, alloc, accepted, codes, LOOKS, &mut links, &NoGate) else {
+    let texts = text_count(accepted.file());
+    let Ok(run) = run_seated(
+        rt, alloc, accepted, codes, texts, LOOKS, &mut links, &NoGate,
+    ) else {
         return None;
     };
     let whole = nanos_since(rt, &began);

@@ -51,7 +51,7 @@ impl<'a> Supplier<'a> {
     fn after(&self, stage: Stage, outcome: Outcome) -> Stage {
         let msg = match outcome {
             Outcome::Took { msg, .. } => Some(msg),
-            Outcome::Done | Outcome::Opened { .. } => None,
+            Outcome::Done | Outcome::Opened { .. } | Outcome::Ready(_) => None,
         };
         match (stage, msg) {
             (Stage::Listens(desk), Some(Msg::Label(label))) if label == self.accept => {

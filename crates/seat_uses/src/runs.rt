@@ -4,13 +4,13 @@ use sj_check::{Accepted, check};
 use sj_lane::RingLinks;
 use sj_party::parse_file;
 use sj_proto::Tokens;
-use sj_seat_run::{Play, SeatedRefusal, SeatedRun, run_seated};
+use sj_seat_run::{Play, SeatedRefusal, SeatedRun, run_seated, text_count};
 use sj_work::NoGate;
 use std::alloc::Global;
 use std::thread::Threads;
 
 /// How many turns in vain a call of a code waits before it is refused as waiting.
-const LOOKS: u32 = 1_000;
+pub(crate) const LOOKS: u32 = 1_000;
 
 /// Why a text isn't run.
 #[derive(Clone, Copy, Debug)]
@@ -21,7 +21,7 @@ pub enum RunRefusal {
 }
 
 /// The accepted file that the text is.
-fn accepted_in(alloc: Global, text: &[u8]) -> Option<Accepted> {
+pub(crate) fn accepted_in(alloc: Global, text: &[u8]) -> Option<Accepted> {
     if text.len() > Tokens::MOST_BYTES {
         return None;
     }
@@ -35,7 +35,7 @@ fn accepted_in(alloc: Global, text: &[u8]) -> Option<Accepted> {
 }
 
 /// A run of the file over rings, to where nobody can go on. Of each party `codes` has the code that
-/// plays it, or None where it goes by the file.
+/// plays it, or None where it goes by the file. Codes name texts of the file alone.
 pub fn run_codes<R: Threads + Sync, C: Play + Send + Drop>(
     rt: &R,
     alloc: Global,
@@ -46,7 +46,10 @@ pub fn run_codes<R: Threads + Sync, C: Play + Send + Drop>(
         return Err(RunRefusal::File);
     };
     let mut links = RingLinks::new();
-    match run_seated(rt, alloc, &accepted, codes, LOOKS, &mut links, &NoGate) {
+    let texts = text_count(accepted.file());
+    match run_seated(
+        rt, alloc, &accepted, codes, texts, LOOKS, &mut links, &NoGate,
+    ) {
         Ok(mut run) => match run.world.drain() {
             Ok(()) => Ok(run),
             Err(_) => Err(RunRefusal::Run(SeatedRefusal::NoMemory)),

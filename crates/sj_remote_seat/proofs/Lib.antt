@@ -3,7 +3,6 @@ mod CaughtLemmas
 mod DeliveredLemmas
 mod GoingLemmas
 mod HandedLemmas
-mod PlayedLemmas
 mod RebuiltLemmas
 mod SatLemmas
 mod SentLemmas

@@ -1,7 +1,6 @@
 //! An act of the party's stream, done again by what its code asks for.
 ghost use Rattle.std.specs.Prelude.{◌≡◌, ◌∷◌, [], IsTrue, OnOk};
 ghost use Rattle.sj_node.specs.Node.{log_of};
-ghost use Rattle.sj_seat.specs.Places.{CarriesPlaces};
 ghost use Rattle.sj_seat.specs.Views.{node_of};
 ghost use Rattle.sj_seat_run.specs.Played.{Played};
 
@@ -14,7 +13,7 @@ use sj_end::{Entry, Line, Note};
 use sj_lane::{InLane, OutLane};
 use sj_node::Node;
 use sj_remote_run::PlayRefusal;
-use sj_seat::{Ask, Guard, Guest, OpenWish, SeatRefusal, Wish};
+use sj_seat::{Answer, Ask, Guard, Guest, OpenWish, Outcome, SeatRefusal, Wish};
 use sj_seat_run::Play;
 use sj_work::{Gate, Stop};
 
@@ -73,6 +72,8 @@ fn is_noted(ask: &Ask, note: Note) -> bool {
             Note::Took { end, .. } => ends.contains(&end),
             _ => false,
         },
+        // No act.
+        Ask::Ready { .. } => false,
     }
 }
 
@@ -100,9 +101,7 @@ fn repeat<O: OutLane, I: InLane, G: Gate>(
 }
 
 /// The first rule that refuses what the code asks for, if one does.
-fn refusal_of(guard: Guard<'_>, ask: &Ask) -> Option<SeatRefusal>
-    requires { CarriesPlaces guard.table.now }
-{
+fn refusal_of(guard: Guard<'_>, ask: &Ask) -> Option<SeatRefusal> {
     match ask {
         Ask::Step(wish) => guard.check(*wish).err(),
         Ask::Open(wish) => guard.open(*wish).err(),
@@ -114,11 +113,21 @@ fn refusal_of(guard: Guard<'_>, ask: &Ask) -> Option<SeatRefusal>
             }
             None
         }
+        Ask::Ready { end } => guard.ready(*end).err(),
+    }
+}
+
+/// What the code is answered that asks for something else than the act which comes next, and isn't
+/// refused: whether a message is there, or that it waits.
+fn answer_beside(node: &Node, ask: &Ask) -> Answer {
+    match ask {
+        Ask::Ready { end } => Ok(Outcome::Ready(node.head(*end).is_some())),
+        _ => Err(SeatRefusal::Waiting),
     }
 }
 
 /// Asks the code until it asks for what the entry notes, and does that. Anything else is answered by
-/// its refusal, or as waiting.
+/// its refusal, by whether a message is there, or as waiting.
 pub(crate) fn ask_for<O: OutLane, I: InLane, G: Gate, C: Play>(
     guest: &mut Guest<'_, O, I, G>,
     asking: &mut Asking,
@@ -144,7 +153,8 @@ pub(crate) fn ask_for<O: OutLane, I: InLane, G: Gate, C: Play>(
                     return Err(SeatPlayRefusal::OtherCode);
                 }
                 asked += 1;
-                asking.answer(Err(SeatRefusal::Waiting));
+                let told = answer_beside(guest.worker().node(), ask);
+                asking.answer(told);
             }
         }
     }

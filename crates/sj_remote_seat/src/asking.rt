@@ -1,7 +1,7 @@
 //! What the code asks for, and what it is answered.
 
 use sj_base::NoMemory;
-use sj_seat::{Answer, Ask, Guard, SeatRefusal};
+use sj_seat::{Answer, Ask, Guard, Outcome, SeatRefusal};
 use sj_seat_run::Play;
 use std::alloc::Global;
 
@@ -17,7 +17,7 @@ pub(crate) struct Asking {
     answer: Option<Answer>,
     /// It asks for nothing more.
     over: bool,
-    /// What was answered as waiting since something came.
+    /// What was answered as waiting, or as not there, since something came.
     waiting: Vec<Ask>,
 }
 
@@ -56,10 +56,10 @@ impl Asking {
         self.ask = None;
     }
 
-    /// What the code asked for is answered, unless it knows already that it waits. Answers whether it
-    /// waits on.
+    /// What the code asked for is answered, unless it knows already that nothing came. Answers whether
+    /// it waits on.
     pub fn answer_once(&mut self, answer: Answer) -> Result<bool, NoMemory> {
-        if answer != Err(SeatRefusal::Waiting) {
+        if !is_vain(answer) {
             self.answer(answer);
             return Ok(false);
         }
@@ -74,7 +74,7 @@ impl Asking {
         Ok(false)
     }
 
-    /// Whether that was answered as waiting since something came, or so much was that no more is
+    /// Whether that was answered so since something came, or so much was that no more is
     /// kept in mind.
     fn knows(&self) -> bool {
         let Some(ask) = &self.ask else {
@@ -94,12 +94,21 @@ impl Asking {
     }
 }
 
+/// Whether nothing came that the code asked for.
+fn is_vain(answer: Answer) -> bool {
+    matches!(
+        answer,
+        Err(SeatRefusal::Waiting) | Ok(Outcome::Ready(false))
+    )
+}
+
 /// Whether the code asks for the same.
 fn is_same(these: &Ask, those: &Ask) -> bool {
     match (these, those) {
         (Ask::Step(a), Ask::Step(b)) => *a == *b,
         (Ask::Open(a), Ask::Open(b)) => *a == *b,
         (Ask::TakeAny(a), Ask::TakeAny(b)) => a.as_slice() == b.as_slice(),
+        (Ask::Ready { end: a }, Ask::Ready { end: b }) => *a == *b,
         _ => false,
     }
 }

@@ -13,7 +13,7 @@ use sj_base::NoMemory;
 use sj_check::Accepted;
 use sj_engine::{ByteIn, ByteOut};
 use sj_lane::Lanes;
-use sj_seat::{Guest, seat_table};
+use sj_seat::{Guest, seat_table, text_count};
 use sj_table::Table;
 use sj_work::NoGate;
 use std::alloc::Global;
@@ -31,7 +31,8 @@ fn table_for(alloc: Global, accepted: &Accepted) -> Result<Table, SeatPlayRefusa
     }
 }
 
-/// The party before its first call, with these lanes. A call that waits is refused at once.
+/// The party before its first call, with these lanes. A call that waits is refused at once. Its code
+/// names texts of the file alone.
 pub(crate) fn take_seat<'a>(
     alloc: Global,
     accepted: &Accepted,
@@ -43,6 +44,7 @@ pub(crate) fn take_seat<'a>(
     ensures { IfOk result (Begins (file_of (file_in accepted.now)) party) }
 {
     let table = table_for(alloc, accepted)?;
-    let seat = Guest::start(alloc, accepted, &table, party, lanes, 0, gate)?;
+    let texts = text_count(accepted.file());
+    let seat = Guest::start(alloc, accepted, &table, party, lanes, texts, 0, gate)?;
     Ok(seat)
 }

@@ -2,7 +2,7 @@ mod BegunLemmas
 mod CarriedLemmas
 mod ListLemmas
 mod LogLemmas
-mod PlayedLemmas
+pub mod PlayedLemmas
 mod RanLemmas
 mod RefusalLemmas
 mod RunnerLemmas

@@ -1,5 +1,5 @@
 -- What becomes of a guest by one thing that its code asks for after another.
-use Rattle.std.proofs.Common.{◌≡◌, ◌∙◌, length, List, ◌∷◌, None, Result, Ok, Err, IfOk, OnErr, refl, sym, arith}
+use Rattle.std.proofs.Common.{◌≡◌, ◌∙◌, length, List, None, Result, Ok, Err, IfOk, OnErr, refl, sym, arith}
 use Rattle.sj_lang.specs.FileAt.{FileAt}
 use Rattle.sj_node.specs.Reading.{parties_of}
 use Rattle.sj_seat_laws.specs.Calls.{Call}
@@ -45,9 +45,9 @@ module _ {O I G : Type 0} (k : LaneLaws O I) where
   played_rest a b went keeps counts = record { calls = λ rest. rest; went = went; keeps = keeps; counts = counts }
 
   -- what it asks for, whatever the answer is
-  pub played_call : (a b : Guest O I G) (call : Outcome → Call) (r : Result Outcome SeatRefusal)
-      → IfOk r (λ o. (file : FileAt) (rest : List Call) → length file.parties ≡ parties_of (node_of a) → Went k.outward k.inward file (call o ∷ rest) rest a b)
+  pub played_call : (a b : Guest O I G) (made : Outcome → List Call → List Call) (r : Result Outcome SeatRefusal)
+      → IfOk r (λ o. (file : FileAt) (rest : List Call) → length file.parties ≡ parties_of (node_of a) → Went k.outward k.inward file (made o rest) rest a b)
       → ((file : FileAt) (rest : List Call) → length file.parties ≡ parties_of (node_of a) → OnErr r (Went k.outward k.inward file rest rest a b))
       → Keeps (node_of a) (node_of b) → CountedBy k a.worker b.worker → PlayedBy a b
-  played_call a b call (Ok m) ok err keeps counts = record { calls = λ rest. call m ∷ rest; went = ok; keeps = keeps; counts = counts }
-  played_call a b call (Err e) ok err keeps counts = played_rest a b err keeps counts
+  played_call a b made (Ok m) ok err keeps counts = record { calls = made m; went = ok; keeps = keeps; counts = counts }
+  played_call a b made (Err e) ok err keeps counts = played_rest a b err keeps counts

@@ -52,6 +52,7 @@ fn seat_for<'a, O: OutLane, I: InLane, G, C: Drop>(
     party: u16,
     lanes: Lanes<O, I>,
     code: Option<C>,
+    texts: usize,
     looks: u32,
     gate: &'a G,
 ) -> Result<Runner<'a, O, I, G, C>, NoMemory>
@@ -68,7 +69,7 @@ fn seat_for<'a, O: OutLane, I: InLane, G, C: Drop>(
             Ok(Runner::Written(Worker::new(node, lanes)))
         }
         Some(code) => {
-            let guest = Guest::start(alloc, accepted, table, party, lanes, looks, gate)?;
+            let guest = Guest::start(alloc, accepted, table, party, lanes, texts, looks, gate)?;
             let opened = Vec::new(alloc);
             Ok(Runner::Coded(Actor {
                 guest,
@@ -79,12 +80,14 @@ fn seat_for<'a, O: OutLane, I: InLane, G, C: Drop>(
     }
 }
 
-/// All parties with the lanes of their numbers. Each is played by its code, where it has one.
+/// All parties with the lanes of their numbers. Each is played by its code, where it has one, which
+/// may name so many texts.
 pub(crate) fn take_seats<'a, O: OutLane, I: InLane, G, C: Drop>(
     alloc: Global,
     accepted: &Accepted,
     table: &Table,
     codes: Vec<Option<C>>,
+    texts: usize,
     lanes: Vec<Lanes<O, I>>,
     looks: u32,
     gate: &'a G,
@@ -105,7 +108,7 @@ pub(crate) fn take_seats<'a, O: OutLane, I: InLane, G, C: Drop>(
             Some(code) => code,
             None => None,
         };
-        let runner = seat_for(alloc, accepted, table, party, own, code, looks, gate)?;
+        let runner = seat_for(alloc, accepted, table, party, own, code, texts, looks, gate)?;
         runners.push(runner)?;
         party = party.saturating_add(1);
     }

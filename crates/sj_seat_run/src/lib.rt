@@ -16,4 +16,4 @@ mod turnout;
 pub use play::Play;
 pub use refusal::SeatedRefusal;
 pub use runs::{SeatedRun, run_seated};
-pub use sj_seat::{Answer, Ask, Outcome};
+pub use sj_seat::{Answer, Ask, Outcome, text_count};

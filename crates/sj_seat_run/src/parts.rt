@@ -98,6 +98,11 @@ fn do_ask<O: OutLane, I: InLane, G: Gate>(
     answer
 }
 
+/// Whether nothing came that the code asks for.
+fn is_vain(told: Answer) -> bool {
+    matches!(told, Err(SeatRefusal::Waiting) | Ok(Outcome::Ready(false)))
+}
+
 /// What the code asks for is done, and it is told of each answer, until it asks for nothing more, or
 /// the worker has stopped for good.
 fn play_out<O: OutLane, I: InLane, G: Gate, C: Play>(
@@ -116,7 +121,7 @@ fn play_out<O: OutLane, I: InLane, G: Gate, C: Play>(
             return;
         }
         let told = do_ask(guest, opened, &ask);
-        if told == Err(SeatRefusal::Waiting) {
+        if is_vain(told) {
             thread::yield_now();
         }
         answer = Some(told);

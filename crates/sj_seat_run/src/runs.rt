@@ -84,7 +84,8 @@ fn seated_world<C>(
 
 /// Runs a file over lanes that the links make, each party on a thread of its own where one can be
 /// had. Of each party `codes` has the code that plays it, or None where it goes by the file. Missing
-/// ones are None, too many are dropped. A call of a code waits as many turns in vain as there are
+/// ones are None, too many are dropped. Each code may name so many texts: those of the file
+/// (`text_count`), or more where one of the codes adds some. A call of a code waits as many turns in vain as there are
 /// looks. A party that goes by the file works as long as code plays, and then until so many turns in
 /// a row have no event. The logs, joined, are replayed.
 ///
@@ -94,6 +95,7 @@ pub fn run_seated<R: Threads + Sync, L: Links, G: Gate, C: Play + Send + Drop>(
     alloc: Global,
     accepted: &Accepted,
     codes: Vec<Option<C>>,
+    texts: usize,
     looks: u32,
     links: &mut L,
     gate: &G,
@@ -127,7 +129,9 @@ pub fn run_seated<R: Threads + Sync, L: Links, G: Gate, C: Play + Send + Drop>(
     ensures faults { L.faults links.old ≤ L.faults links.new }
 {
     let table = table_for(alloc, accepted)?;
-    let parties = run_all(rt, alloc, accepted, &table, codes, looks, links, gate)?;
+    let parties = run_all(
+        rt, alloc, accepted, &table, codes, texts, looks, links, gate,
+    )?;
     let workers = parties.workers;
     let codes = parties.codes;
     let opened = parties.opened;

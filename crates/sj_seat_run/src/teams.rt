@@ -70,6 +70,7 @@ pub(crate) fn run_all<R: Threads + Sync, L: Links, G: Gate, C: Play + Send + Dro
     accepted: &Accepted,
     table: &Table,
     codes: Vec<Option<C>>,
+    texts: usize,
     looks: u32,
     links: &mut L,
     gate: &G,
@@ -90,7 +91,7 @@ pub(crate) fn run_all<R: Threads + Sync, L: Links, G: Gate, C: Play + Send + Dro
 {
     let parties = accepted.file().parties.len() as u16;
     let lanes = lanes_for(alloc, parties, links)?;
-    let mut runners = take_seats(alloc, accepted, table, codes, lanes, looks, gate)?;
+    let mut runners = take_seats(alloc, accepted, table, codes, texts, lanes, looks, gate)?;
     set_off(rt, &mut runners, looks, gate);
     let parties = stand_up(alloc, runners)?;
     Ok(parties)

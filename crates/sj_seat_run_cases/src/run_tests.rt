@@ -7,7 +7,7 @@ use sj_lane::RingLinks;
 use sj_party::parse_file;
 use sj_proto::Tokens;
 use sj_seat::{OpenWish, SeatRefusal, Wish};
-use sj_seat_run::{SeatedRun, run_seated};
+use sj_seat_run::{SeatedRun, run_seated, text_count};
 use sj_work::NoGate;
 use std::alloc::Global;
 use std::test::Fail;
@@ -58,6 +58,7 @@ fn script_of(alloc: Global, lines: Vec<Line>) -> Script {
         lines,
         took: Vec::new(alloc),
         opened: Vec::new(alloc),
+        looked: Vec::new(alloc),
         refused: Vec::new(alloc),
         done: 0,
         patience: 10_000,
@@ -86,7 +87,9 @@ fn run_of<R: Threads + Sync>(
 ) -> Result<SeatedRun<Script>, Fail> {
     let accepted = accepted(alloc, text)?;
     let mut links = RingLinks::new();
-    let Ok(mut run) = run_seated(rt, alloc, &accepted, codes, 100, &mut links, &NoGate) else {
+    let texts = text_count(accepted.file());
+    let Ok(mut run) = run_seated(rt, alloc, &accepted, codes, texts, 100, &mut links, &NoGate)
+    else {
         return Err(Fail::from("no run"));
     };
     run.world.drain()?;
@@ -287,5 +290,29 @@ fn code_takes_from_whichever_end_is_first(rt: HostRuntime) -> Result<(), Fail> {
     };
     assert_eq!(rt; code.took.len(), 1);
     assert_eq!(rt; code.done, 2);
+    Ok(())
+}
+
+#[test]
+fn code_looks_for_a_message_before_it_takes(rt: HostRuntime) -> Result<(), Fail> {
+    let alloc = rt.alloc();
+    let mut lines = Vec::new(alloc);
+    lines.extend_from_slice(&[
+        Line::Ready(X),
+        Line::Step(Wish::Send {
+            end: X,
+            msg: Msg::Int(4),
+        }),
+        Line::Step(Wish::Take { end: X }),
+        Line::Step(Wish::Take { end: X }),
+        Line::Ready(X),
+        Line::Ready(Y),
+    ])?;
+    let run = shop(&rt, alloc, Some(script_of(alloc, lines)), None)?;
+    let Some(Some(code)) = run.codes.get(0) else {
+        return Err(Fail::from("no code"));
+    };
+    assert_eq!(rt; code.looked.as_slice(), [false, false].as_slice());
+    assert_eq!(rt; code.refused.get(0).copied(), Some(SeatRefusal::NotHeld));
     Ok(())
 }

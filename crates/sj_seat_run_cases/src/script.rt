@@ -12,16 +12,19 @@ pub(crate) enum Line {
     Open(OpenWish),
     /// A take from the first of these two.
     Either(EndId, EndId),
+    /// Whether something is there.
+    Ready(EndId),
 }
 
 /// Code that asks for each thing of a list, in order, again as long as it waits, and keeps what it
-/// took and opened. It skips what a rule refuses, and keeps the refusal.
+/// took, opened and saw. It skips what a rule refuses, and keeps the refusal.
 #[derive(Drop)]
 pub(crate) struct Script {
     pub alloc: Global,
     pub lines: Vec<Line>,
     pub took: Vec<Msg>,
     pub opened: Vec<EndId>,
+    pub looked: Vec<bool>,
     pub refused: Vec<SeatRefusal>,
     pub done: usize,
     /// How often it asks again.
@@ -35,6 +38,7 @@ impl Script {
             Some(Line::Step(wish)) => Some(Ask::Step(wish)),
             Some(Line::Open(wish)) => Some(Ask::Open(wish)),
             Some(Line::Either(first, second)) => self.either(first, second),
+            Some(Line::Ready(end)) => Some(Ask::Ready { end }),
             None => None,
         }
     }
@@ -54,6 +58,7 @@ impl Script {
             Outcome::Done => true,
             Outcome::Took { msg, .. } => self.took.push(msg).is_ok(),
             Outcome::Opened { end } => self.opened.push(end).is_ok(),
+            Outcome::Ready(there) => self.looked.push(there).is_ok(),
         }
     }
 

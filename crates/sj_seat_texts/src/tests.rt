@@ -1,6 +1,6 @@
-use crate::Texts;
+use crate::{Texts, named_file};
 use sj_base::NoMemory;
-use sj_lang::Words;
+use sj_lang::{File, Names, Words};
 use std::alloc::Global;
 use std::test::Fail;
 
@@ -53,5 +53,29 @@ fn a_table_of_the_file_gets_all_texts(rt: HostRuntime) -> Result<(), Fail> {
         return Err(Fail::from("no memory"));
     };
     assert_eq!(rt; same, true);
+    Ok(())
+}
+
+// A file that has two texts, and nothing else.
+fn bare(alloc: Global) -> Result<File, NoMemory> {
+    let words = Words::new(alloc);
+    let texts = table(alloc)?;
+    Ok(File {
+        names: Names { words, texts },
+        protocols: Vec::new(alloc),
+        parties: Vec::new(alloc),
+        connects: Vec::new(alloc),
+    })
+}
+
+#[test]
+fn a_named_file_has_the_texts_of_the_run(rt: HostRuntime) -> Result<(), Fail> {
+    let file = bare(rt.alloc())?;
+    let mut texts = Texts::of(rt.alloc(), &file.names.texts)?;
+    let number = texts.number(b"Oslo")?;
+    let named = named_file(rt.alloc(), &file, texts)?;
+    let all = &named.names.texts;
+    assert_eq!(rt; all.get(0), Some(b"Paris".as_slice()));
+    assert_eq!(rt; all.get(number as usize), Some(b"Oslo".as_slice()));
     Ok(())
 }

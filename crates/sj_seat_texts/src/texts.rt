@@ -33,6 +33,9 @@ impl Model for Texts {
 }
 
 impl Texts {
+    /// So many texts a message can name: enough for whatever a run adds.
+    pub const MOST: usize = MOST_TEXTS;
+
     /// The texts of the file, and none beside them. The table of a file that was read has each text
     /// once; of another table each text stands where it comes first.
     pub fn of(alloc: Global, file: &Words) -> Result<Texts, NoMemory>
@@ -76,6 +79,13 @@ impl Texts {
         let n = self.all.add(text)?;
         self.count += 1;
         Ok(n as u32)
+    }
+
+    /// The table of all texts.
+    pub fn into_words(self) -> Words
+        ensures { result ≡ self }
+    {
+        self.all
     }
 
     /// Puts the texts after those of a table that has the first of them, as that of the file has. So

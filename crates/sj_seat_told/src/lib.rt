@@ -2,12 +2,14 @@
 //! was opened: how each party stands, the verdict, and the transcript.
 #![tactic(auto)]
 
+mod laws;
 mod opened;
 mod refusal;
 mod standing;
 mod told;
 mod waits;
 
+pub use laws::a_quiet_world_is_so_under_any_names;
 pub use opened::opens;
 pub use refusal::TranscriptRefusal;
 pub use standing::{stands, verdict};

@@ -15,7 +15,9 @@ use sj_told::ends_told;
 use std::alloc::Global;
 
 /// Puts the transcript after the text: the sessions of the file's connections as the history reports
-/// them, and the lines and the verdict by how the parties stand. It is refused where a session was
+/// them, and the lines and the verdict by how the parties stand. Where codes added texts, the file is
+/// the one that has them (`named_file` of sj_seat_texts): the world is quiet of that one, too (law
+/// `a_quiet_world_is_so_under_any_names`). A text that the file lacks is `#` and its number. It is refused where a session was
 /// opened, whose names no line reports: then the text is as it was. Out of memory, it leaves a prefix
 /// of the transcript.
 pub fn put_transcript(

@@ -9,6 +9,7 @@ ghost use Rattle.sj_rules.specs.Limits.{clock_end};
 ghost use Rattle.sj_seat.specs.Asked.{IsOpenable};
 ghost use Rattle.sj_seat.specs.Holding.{ends_at};
 ghost use Rattle.sj_seat.specs.Opened.{openings_at};
+ghost use Rattle.sj_seat.specs.Places.{CarriesPlaces};
 ghost use Rattle.sj_seats.specs.Calling.{OpensOne, OpensSo, Sits, protocol_asked};
 ghost use Rattle.sj_seats.specs.Calls.{session_in};
 ghost use Rattle.sj_seats.specs.Openings.{opened_by, protocol_in};
@@ -65,6 +66,7 @@ fn open_wish_of(opened: &[Vec<OpenedSession>], party: u16, note: Note) -> Option
 
 /// Where the party's own end begins of the session, where it may open one.
 fn openable(table: &Table, chair: &Chair, wish: OpenWish) -> Option<Spot>
+    requires carries { CarriesPlaces table.now }
     ensures { IfSome result (IsOpenable table.now (openings_at table.now chair.now.may)
         (ends_at table.now chair.now.ends.items) chair.now.calls wish) }
 {
@@ -101,6 +103,7 @@ fn make_open(
     wish: OpenWish,
 ) -> Result<Option<Entry>, NoMemory>
     requires over { table_of node.old ≡ table.now }
+    requires carries { CarriesPlaces table.now }
     requires clock { clock_of node.old < clock_end }
     ensures done { IfOk result (λ o. IfSome o (λ e.
         OpensOne table.now node.old chair.old wish e node.new chair.new)) }

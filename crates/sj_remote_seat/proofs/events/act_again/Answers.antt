@@ -24,7 +24,7 @@ with_worker-guest-requires-clause-idle g c =
 
 pub with_worker-requires-clause-same : goal.with_worker-requires-clause-same
 with_worker-requires-clause-same g c =
-    ap nodes.table_of c.new-worker.ensures.node ∙ c.push_all.ensures.table ∙ c.into_parts-node.ensures.node.table ∙ c.into_parts-after.ensures.same
+    ap nodes.table_of c.new-worker.ensures.node ∙ c.push_all.ensures.node.table ∙ c.into_parts-node.ensures.node.table ∙ c.into_parts-after.ensures.same
 
 pub with_worker-requires-clause-idle : goal.with_worker-requires-clause-idle
 with_worker-requires-clause-idle g c =
@@ -32,7 +32,7 @@ with_worker-requires-clause-idle g c =
     let m = c.into_parts-node.result.1 in
     let n = c.push_all.new.node in
     let v = works.node_of c.new-worker.result in
-    let like = resembles_then w m v (after_entry w m c.into_parts-node.ensures.node) (resembles_then m n v (after_out m n c.push_all.ensures) (resembles_same n v c.new-worker.ensures.node)) in
+    let like = resembles_then w m v (after_entry w m c.into_parts-node.ensures.node) (resembles_then m n v (after_out m n c.push_all.ensures.node) (resembles_same n v c.new-worker.ensures.node)) in
     idle_like w v like c.into_parts-after.ensures.idle
 
 pub returns-clause-sat : goal.returns-clause-sat
@@ -49,5 +49,5 @@ returns-clause-sat g c =
     c.into_parts-before.ensures.worker c.into_parts-lanes.ensures.node (resembles_same m m (λ i. m)) c.new-bare.ensures.node c.with_worker-guest.ensures.worker in
     let asked = sat_turns b d (entry_at e ∷ []) none (ap entries_of c.in_ok-ask_for.ensures.only) (turns_played _ _ b d c.in_ok-ask_for.ensures.played) in
     let last = put_back c.into_parts-after.result.1 d z c.into_parts-after.result.0 c.new-worker.result o c.push_all.new.node c.into_parts-after.ensures.holds c.with_worker.ensures.holds
-    c.into_parts-after.ensures.worker c.into_parts-node.ensures.node (after_out o c.push_all.new.node c.push_all.ensures) c.new-worker.ensures.node c.with_worker.ensures.worker in
+    c.into_parts-after.ensures.worker c.into_parts-node.ensures.node (after_out o c.push_all.new.node c.push_all.ensures.node) c.new-worker.ensures.node c.with_worker.ensures.worker in
     sat_between a b d z (entry_at e ∷ []) first asked last

@@ -13,7 +13,7 @@ with_worker-requires-clause-same c =
     let m = c.into_parts-lanes.result.1 in
     let n = c.deliver.new.node in
     let d = c.in_ok-deliver.ensures.delivered in
-    ap nodes.table_of c.new-worker.ensures.node ∙ c.push_all.ensures.table ∙ c.take_log.ensures.rest.table ∙ table_delivered m n c.args.from (frame_at c.in_ok-frame.frame) d
+    ap nodes.table_of c.new-worker.ensures.node ∙ c.push_all.ensures.node.table ∙ c.take_log.ensures.rest.table ∙ table_delivered m n c.args.from (frame_at c.in_ok-frame.frame) d
     ∙ c.into_parts-lanes.ensures.node.table ∙ c.into_parts-worker.ensures.same
 
 pub with_worker-requires-clause-idle : goal.with_worker-requires-clause-idle
@@ -25,7 +25,7 @@ with_worker-requires-clause-idle c =
     let q = c.push_all.new.node in
     let v = works.node_of c.new-worker.result in
     let d = c.in_ok-deliver.ensures.delivered in
-    let like = resembles_then p q v (after_out p q c.push_all.ensures) (resembles_same q v c.new-worker.ensures.node) in
+    let like = resembles_then p q v (after_out p q c.push_all.ensures.node) (resembles_same q v c.new-worker.ensures.node) in
     let before = idle_like w m (after_entry w m c.into_parts-lanes.ensures.node) c.into_parts-worker.ensures.idle in
     let after = idle_like n p (after_entry n p c.take_log.ensures.rest) (idle_delivered m n c.args.from (frame_at c.in_ok-frame.frame) d before) in
     idle_like p v like after
@@ -41,6 +41,6 @@ returns-clause-sat c =
     let q = c.push_all.new.node in
     let before = resembles_then (node_of a) w m (resembles_same (node_of a) w (ap works.node_of c.into_parts-worker.ensures.worker)) (after_entry w m c.into_parts-lanes.ensures.node) in
     let last = resembles_same q (node_of b) (ap works.node_of c.with_worker.ensures.worker ∙ c.new-worker.ensures.node) in
-    let after = resembles_then n p (node_of b) (after_entry n p c.take_log.ensures.rest) (resembles_then p q (node_of b) (after_out p q c.push_all.ensures) last) in
+    let after = resembles_then n p (node_of b) (after_entry n p c.take_log.ensures.rest) (resembles_then p q (node_of b) (after_out p q c.push_all.ensures.node) last) in
     sat_delivered m n c.args.from (frame_at c.in_ok-frame.frame) c.in_ok-deliver.ensures.delivered a b c.args.entry.now c.into_parts-lanes.ensures.none c.in_ok-deliver.ensures.only before after
     (seats_same c.into_parts-worker.result.1 a b c.into_parts-worker.ensures.holds c.with_worker.ensures.holds)

@@ -44,10 +44,10 @@ returns-clause-ok g c =
     let held : vec_len all ≡ length all.items = omega (arith, all.ok) in
     let count : c.len-parties.result ≡ length file.parties = c.len-parties.ensures ∙ held ∙ sym (length-map c.file-2.result.now.parties.items party_at) ∙ ap (λ f. length (file_of f).parties) c.file-2.ensures.value in
     let named : keys ≡ log_keys run (length file.parties) = ap words_at read.keys ∙ c.in_ok-streams.ensures.keys ∙ ap (log_keys run) count in
-    let shares = c.in_ok-share.ensures ∙ ap (λ f. put_behind (written (sink_of c.sign_in.new.conn)) (command_text (share_words run (file_text (file_of f))) ++ command_text (get_words run))) c.file.ensures.value in
+    let shares = c.in_ok-share.ensures.sent ∙ ap (λ f. put_behind (written (sink_of c.sign_in.new.conn)) (command_text (share_words run (file_text (file_of f))) ++ command_text (get_words run))) c.file.ensures.value in
     let reads = read.sent.1 ∙ ap (λ ks. put_behind (written (sink_of c.share.new.conn)) (reads_text (words_at ks) read.sent.0)) (sym read.keys) in
     let wrote = before_are file run keys party user password read.sent.0 (written (sink_of c.args.conn.now)) (written (sink_of c.sign_in.new.conn)) (written (sink_of c.share.new.conn)) (written (sink_of c.read_all.new.conn))
-    c.in_ok-sign_in.ensures shares reads in
+    c.in_ok-sign_in.ensures.sent shares reads in
     let number : get_or seen party 0 ≡ length (entries_in own) = read.count (c.in_ok-streams.ensures.seen party ∙ ap entry_count (sym c.new-own.ensures.items)) ∙ ap entry_count (sym c.deref.ensures.value) in
     let seat = c.in_ok-seat.seat in
     let gone = subst (λ (f : File). HasGone (text_sent (file_of f) run keys (party_of (node_of seat))) (file_of f) (get_or seen (party_of (node_of seat)) 0) seat c.in_ok-outcome.outcome
@@ -69,13 +69,13 @@ returns-in_err-first-clause-refused g c =
     let held : vec_len all ≡ length all.items = omega (arith, all.ok) in
     let count : c.len-parties.result ≡ length file.parties = c.len-parties.ensures ∙ held ∙ sym (length-map c.file-2.result.now.parties.items party_at) ∙ ap (λ f. length (file_of f).parties) c.file-2.ensures.value in
     let named : keys ≡ log_keys run (length file.parties) = ap words_at read.keys ∙ c.in_ok-streams.ensures.keys ∙ ap (log_keys run) count in
-    let shares = c.in_ok-share.ensures ∙ ap (λ f. put_behind (written (sink_of c.sign_in.new.conn)) (command_text (share_words run (file_text (file_of f))) ++ command_text (get_words run))) c.file.ensures.value in
+    let shares = c.in_ok-share.ensures.sent ∙ ap (λ f. put_behind (written (sink_of c.sign_in.new.conn)) (command_text (share_words run (file_text (file_of f))) ++ command_text (get_words run))) c.file.ensures.value in
     let reads = read.sent.1 ∙ ap (λ ks. put_behind (written (sink_of c.share.new.conn)) (reads_text (words_at ks) read.sent.0)) (sym read.keys) in
     let before = written (sink_of c.args.conn.now) in
     let after = written (sink_of c.read_all.new.conn) in
     refused_any file run party before after c.from_residual-in_err-first.result
     (asks_named file run keys party user password read.sent.0 before after named
-    (before_are file run keys party user password read.sent.0 before (written (sink_of c.sign_in.new.conn)) (written (sink_of c.share.new.conn)) after c.in_ok-sign_in.ensures shares reads))
+    (before_are file run keys party user password read.sent.0 before (written (sink_of c.sign_in.new.conn)) (written (sink_of c.share.new.conn)) after c.in_ok-sign_in.ensures.sent shares reads))
 
 pub returns-in_err-seat-clause-refused : goal.returns-in_err-seat-clause-refused
 returns-in_err-seat-clause-refused g c =
@@ -91,10 +91,10 @@ returns-in_err-seat-clause-refused g c =
     let held : vec_len all ≡ length all.items = omega (arith, all.ok) in
     let count : c.len-parties.result ≡ length file.parties = c.len-parties.ensures ∙ held ∙ sym (length-map c.file-2.result.now.parties.items party_at) ∙ ap (λ f. length (file_of f).parties) c.file-2.ensures.value in
     let named : keys ≡ log_keys run (length file.parties) = ap words_at read.keys ∙ c.in_ok-streams.ensures.keys ∙ ap (log_keys run) count in
-    let shares = c.in_ok-share.ensures ∙ ap (λ f. put_behind (written (sink_of c.sign_in.new.conn)) (command_text (share_words run (file_text (file_of f))) ++ command_text (get_words run))) c.file.ensures.value in
+    let shares = c.in_ok-share.ensures.sent ∙ ap (λ f. put_behind (written (sink_of c.sign_in.new.conn)) (command_text (share_words run (file_text (file_of f))) ++ command_text (get_words run))) c.file.ensures.value in
     let reads = read.sent.1 ∙ ap (λ ks. put_behind (written (sink_of c.share.new.conn)) (reads_text (words_at ks) read.sent.0)) (sym read.keys) in
     let before = written (sink_of c.args.conn.now) in
     let after = written (sink_of c.read_all.new.conn) in
     refused_any file run party before after c.from_residual-in_err-seat.result
     (asks_named file run keys party user password read.sent.0 before after named
-    (before_are file run keys party user password read.sent.0 before (written (sink_of c.sign_in.new.conn)) (written (sink_of c.share.new.conn)) after c.in_ok-sign_in.ensures shares reads))
+    (before_are file run keys party user password read.sent.0 before (written (sink_of c.sign_in.new.conn)) (written (sink_of c.share.new.conn)) after c.in_ok-sign_in.ensures.sent shares reads))

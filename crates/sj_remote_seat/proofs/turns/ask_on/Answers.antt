@@ -3,7 +3,7 @@ use Rattle.sj_seat.specs.Views.{worker_of}
 use Rattle.sj_work.proofs.LaneLaws.{laws}
 use Rattle.sj_work.specs.Views.{stop_of}
 use Rattle.sj_work.specs.Worked.{kept_stop}
-use Rattle.sj_remote_seat.proofs.PlayedLemmas.{played_none, played_then}
+use Rattle.sj_seat_run.proofs.PlayedLemmas.{played_none, played_then}
 use Rattle.sj_remote_seat.proofs.turns.ask_on.Goals as goal
 
 pub loop-init : goal.loop-init

@@ -3,7 +3,7 @@ use Rattle.sj_seat.specs.Views.{worker_of}
 use Rattle.sj_work.proofs.LaneLaws.{laws}
 use Rattle.sj_work.specs.Views.{stop_of}
 use Rattle.sj_work.specs.Worked.{kept_stop}
-use Rattle.sj_remote_seat.proofs.PlayedLemmas.{played_rest, played_then}
+use Rattle.sj_seat_run.proofs.PlayedLemmas.{played_rest, played_then}
 use Rattle.sj_remote_seat.proofs.turns.take_turn.Goals as goal
 
 pub returns-then-is_some : goal.returns-then-is_some
