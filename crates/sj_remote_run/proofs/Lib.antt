@@ -1,7 +1,10 @@
 pub mod AgainLemmas
 pub mod CaughtLemmas
+pub mod CauseLemmas
 pub mod GoesLemmas
 pub mod PlayedLemmas
+pub mod RefusedLemmas
 pub mod SentLemmas
+pub mod TalkedLemmas
 pub mod TurnLemmas
 pub mod WordLemmas

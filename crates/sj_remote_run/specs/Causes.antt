@@ -20,6 +20,14 @@ refusal_means refusals.Away = plays.NoServer
 refusal_means refusals.Full = plays.Server
 refusal_means refusals.Other = plays.Server
 
+-- to a password, each error but that of a server that is away means that it is refused
+abbrev pub password_means : Refusal → PlayRefusal
+password_means refusals.Late = plays.Password
+password_means refusals.Password = plays.Password
+password_means refusals.Away = plays.NoServer
+password_means refusals.Full = plays.Password
+password_means refusals.Other = plays.Password
+
 abbrev pub conn_means : ConnRefusal → PlayRefusal
 conn_means conns.Lost = plays.Lost
 conn_means conns.NoReply = plays.NoReply

@@ -1,9 +1,10 @@
 //! What a party noted, as the command that adds it.
-ghost use Rattle.std.specs.Prelude.{◌≡◌, ◌+◌, ◌++◌, OnOk, get_or, map};
+ghost use Rattle.std.specs.Prelude.{◌≡◌, ◌+◌, ◌++◌, IfErr, OnOk, get_or, map};
 ghost use Rattle.sj_engine.specs.Lanes.{pushed_on};
 ghost use Rattle.sj_lang.specs.FileView.{file_of};
 ghost use Rattle.sj_node.specs.Reading.{party_of};
 ghost use Rattle.sj_remote.specs.Streams.{keys_of, seen_of};
+ghost use Rattle.sj_remote_run.specs.Asked.{IsInside};
 ghost use Rattle.sj_remote_run.specs.Turns.{added_count, batch_text, next_seen, node_in, outs_in};
 ghost use Rattle.sj_streams.specs.Words.{words_at};
 
@@ -37,6 +38,7 @@ pub(crate) fn put_batch(
         ≡ get_or (seen_of streams.old) (party_of (node_in player.old)) 0 + added_count noted.now) }
     ensures keys { keys_of streams.new ≡ keys_of streams.old }
     ensures node { node_in player.new ≡ node_in player.old }
+    ensures refused { IfErr result IsInside }
 {
     if noted.is_empty() {
         return Ok(());

@@ -1,8 +1,9 @@
 //! An entry of the party's stream, done again.
-ghost use Rattle.std.specs.Prelude.{◌≡◌, IsTrue, OnOk};
+ghost use Rattle.std.specs.Prelude.{◌≡◌, IfErr, IsTrue, OnOk};
 ghost use Rattle.sj_check.specs.Held.{file_in};
 ghost use Rattle.sj_lang.specs.FileView.{file_of};
 ghost use Rattle.sj_remote_run.specs.Again.{DidAgain, Went};
+ghost use Rattle.sj_remote_run.specs.Asked.{IsInside};
 ghost use Rattle.sj_streams.specs.Words.{words_at};
 
 use crate::PlayRefusal;
@@ -20,7 +21,9 @@ use sj_streams::lines_of;
 use std::alloc::Global;
 
 /// The lines of a batch.
-pub fn lines_in(alloc: Global, file: &File, text: &[u8]) -> Result<Vec<Line>, PlayRefusal> {
+pub fn lines_in(alloc: Global, file: &File, text: &[u8]) -> Result<Vec<Line>, PlayRefusal>
+    ensures { IfErr result IsInside }
+{
     if text.len() > LONGEST {
         return Err(PlayRefusal::LogFault);
     }
@@ -39,7 +42,8 @@ fn redo_lines(
     lanes: &mut Lanes<ByteOut, ByteIn>,
     text: &[u8],
 ) -> Result<(), PlayRefusal>
-    ensures { OnOk result (Went node.old node.new) }
+    ensures went { OnOk result (Went node.old node.new) }
+    ensures refused { IfErr result IsInside }
 {
     let lines = lines_in(alloc, accepted.file(), text)?;
     for line in &lines {
@@ -76,8 +80,9 @@ pub fn do_again(
     lanes: &mut Lanes<ByteOut, ByteIn>,
     words: &[Vec<u8>],
 ) -> Result<(), PlayRefusal>
-    ensures { OnOk result
+    ensures again { OnOk result
         (DidAgain (file_of (file_in accepted.now)) (words_at words.now) node.old node.new) }
+    ensures refused { IfErr result IsInside }
 {
     let Some(text) = lines_of(words) else {
         return Err(PlayRefusal::LogFault);

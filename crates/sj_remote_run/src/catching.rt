@@ -1,10 +1,11 @@
 //! How a new process comes to where the party's last one was.
-ghost use Rattle.std.specs.Prelude.{◌≡◌, ◌+◌, ◌<◌, List, ℕ, None, IfOk, OnOk, get_or, length, map};
+ghost use Rattle.std.specs.Prelude.{◌≡◌, ◌+◌, ◌<◌, List, ℕ, None, IfErr, IfOk, OnOk, get_or, length, map};
 ghost use Rattle.sj_base.specs.Stream.{put_behind};
 ghost use Rattle.sj_check.specs.Held.{file_in};
 ghost use Rattle.sj_lang.specs.FileView.{file_of};
 ghost use Rattle.sj_remote.specs.Conn.{sink_of};
 ghost use Rattle.sj_remote.specs.Streams.{keys_of, seen_of};
+ghost use Rattle.sj_remote_run.specs.Asked.{IsCause, IsInside, IsOfStreams, Talks};
 ghost use Rattle.sj_remote_run.specs.Caught.{DidAll, IsCaughtUp, entries_in, entry_count, reads_text};
 ghost use Rattle.sj_resp.specs.Spelling.{command_text};
 ghost use Rattle.sj_streams.specs.Commands.{read_words};
@@ -25,7 +26,9 @@ use sj_streams::Came;
 use std::alloc::Global;
 
 /// Lanes to and from so many parties, on which nothing was sent.
-pub fn new_lanes(alloc: Global, parties: u16) -> Result<Lanes<ByteOut, ByteIn>, PlayRefusal> {
+pub fn new_lanes(alloc: Global, parties: u16) -> Result<Lanes<ByteOut, ByteIn>, PlayRefusal>
+    ensures { IfErr result IsInside }
+{
     let mut outs = Vec::new(alloc);
     let mut ins = Vec::new(alloc);
     for _ in 0..parties {
@@ -47,12 +50,13 @@ fn take_one(
     ensures keys { keys_of streams.new ≡ keys_of streams.old }
     ensures count { OnOk result (get_or (seen_of streams.old) party 0 ≡ entry_count own.old.items
         → get_or (seen_of streams.new) party 0 ≡ entry_count own.new.items) }
+    ensures refused { IfErr result IsInside }
 {
     if one.stream != usize::from(party) {
         return take_frames(streams, ins, name, &one);
     }
     if one.stream >= streams.count() {
-        return Err(PlayRefusal::NoReply);
+        return Err(PlayRefusal::LogFault);
     }
     if one.first != streams.last(one.stream) + 1 {
         return Err(PlayRefusal::LogFault);
@@ -78,6 +82,9 @@ fn read_once<S: Source, K: Sink>(
     ensures sent { OnOk result (K.written (sink_of conn.new)
         ≡ put_behind (K.written (sink_of conn.old)) (command_text
         (read_words 512 None (words_at (keys_of streams.old)) (seen_of streams.old)))) }
+    ensures talked { OnOk result (Talks S.left S.faults K.faults conn.old conn.new) }
+    ensures refused { IfErr result (IsCause S.left S.faults S.has_ended K.faults
+        (IsOfStreams (words_at (keys_of streams.old)) party) conn.old conn.new) }
 {
     let name = name_of(alloc, party)?;
     let mut text = Vec::new(alloc);
@@ -109,6 +116,9 @@ pub fn read_all<S: Source, K: Sink>(
     ensures sent { OnOk result ((asked : List (List ℕ)) × (K.written (sink_of conn.new)
         ≡ put_behind (K.written (sink_of conn.old))
         (reads_text (words_at (keys_of streams.old)) asked))) }
+    ensures talked { OnOk result (Talks S.left S.faults K.faults conn.old conn.new) }
+    ensures refused { IfErr result (IsCause S.left S.faults S.has_ended K.faults
+        (IsOfStreams (words_at (keys_of streams.old)) party) conn.old conn.new) }
 {
     for _ in 0..u64::MAX {
         if !read_once(alloc, conn, streams, ins, party, own)? {
@@ -126,8 +136,9 @@ fn redo_came(
     lanes: &mut Lanes<ByteOut, ByteIn>,
     entries: &[Vec<Vec<u8>>],
 ) -> Result<(), PlayRefusal>
-    ensures { OnOk result (DidAll (file_of (file_in accepted.now))
+    ensures did { OnOk result (DidAll (file_of (file_in accepted.now))
         (map (λ e. words_at e.items) entries.now) node.old node.new) }
+    ensures refused { IfErr result IsInside }
 {
     for words in entries {
         do_again(alloc, accepted, node, lanes, words)?;
@@ -143,8 +154,9 @@ fn redo_all(
     lanes: &mut Lanes<ByteOut, ByteIn>,
     own: &[Came],
 ) -> Result<(), PlayRefusal>
-    ensures { OnOk result (DidAll (file_of (file_in accepted.now))
+    ensures did { OnOk result (DidAll (file_of (file_in accepted.now))
         (entries_in own.now) node.old node.new) }
+    ensures refused { IfErr result IsInside }
 {
     for came in own {
         redo_came(alloc, accepted, node, lanes, &came.entries)?;
@@ -169,6 +181,9 @@ pub(crate) fn catch_up<S: Source, K: Sink>(
     ensures again { IfOk result (λ r. get_or (seen_of streams.old) party 0 ≡ 0
         → IsCaughtUp (file_of (file_in accepted.now)) party
         (get_or (seen_of streams.new) party 0) r.0) }
+    ensures talked { OnOk result (Talks S.left S.faults K.faults conn.old conn.new) }
+    ensures refused { IfErr result (IsCause S.left S.faults S.has_ended K.faults
+        (IsOfStreams (words_at (keys_of streams.old)) party) conn.old conn.new) }
 {
     let mut lanes = new_lanes(alloc, accepted.file().parties.len() as u16)?;
     let mut own = Vec::new(alloc);

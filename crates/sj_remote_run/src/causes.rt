@@ -1,7 +1,9 @@
 //! What each refusal below means for a party that is played.
 ghost use Rattle.std.specs.Prelude.{◌≡◌};
+ghost use Rattle.sj_remote_run.specs.Asked.{IsInside};
 ghost use Rattle.sj_remote_run.specs.Causes.{conn_means as conn_cause};
 ghost use Rattle.sj_remote_run.specs.Causes.{misread_means as misread_cause};
+ghost use Rattle.sj_remote_run.specs.Causes.{password_means as password_cause};
 ghost use Rattle.sj_remote_run.specs.Causes.{refusal_means as refusal_cause};
 ghost use Rattle.sj_remote_run.specs.Causes.{spell_means as spell_cause, talk_means as talk_cause};
 
@@ -19,6 +21,16 @@ pub(crate) fn refusal_means(refusal: Refusal) -> PlayRefusal
         Refusal::Password => PlayRefusal::Password,
         Refusal::Away => PlayRefusal::NoServer,
         Refusal::Full | Refusal::Other => PlayRefusal::Server,
+    }
+}
+
+/// What a server's refusal means that comes to a password.
+pub(crate) fn password_means(refusal: Refusal) -> PlayRefusal
+    ensures { result ≡ password_cause refusal }
+{
+    match refusal {
+        Refusal::Away => PlayRefusal::NoServer,
+        _ => PlayRefusal::Password,
     }
 }
 
@@ -58,7 +70,8 @@ pub(crate) fn misread_means(misread: Misread) -> PlayRefusal
 
 /// What frames that aren't spelt mean.
 pub fn spell_means(refusal: SpellRefusal) -> PlayRefusal
-    ensures { result ≡ spell_cause refusal }
+    ensures cause { result ≡ spell_cause refusal }
+    ensures inside { IsInside result }
 {
     match refusal {
         SpellRefusal::Unlawful => PlayRefusal::TooLong,

@@ -1,7 +1,8 @@
 //! A batch as the words of an entry.
-ghost use Rattle.std.specs.Prelude.{◌≡◌, ◌<◌, ◌≤◌, ◌++◌, ◌^◌, length, map, IfOk, OnOk};
+ghost use Rattle.std.specs.Prelude.{◌≡◌, ◌<◌, ◌≤◌, ◌++◌, ◌^◌, length, map, IfErr, IfOk, OnOk};
 ghost use Rattle.sj_engine.specs.Lanes.{pushed_on};
 ghost use Rattle.sj_lang.specs.FileView.{file_of};
+ghost use Rattle.sj_remote_run.specs.Asked.{IsInside};
 ghost use Rattle.sj_remote_run.specs.Entries.{entry_words, lane_words, lines_text};
 ghost use Rattle.sj_streams.specs.Words.{words_at};
 
@@ -27,6 +28,7 @@ pub(crate) fn lines_of_entries(
     ensures lines { IfOk result (λ text. text.items
         ≡ lines_text (file_of file.now) party entries.now) }
     ensures short { IfOk result (λ text. length text.items ≤ 16777216) }
+    ensures refused { IfErr result IsInside }
 {
     let mut text = Vec::new(alloc);
     for &entry in entries {
@@ -46,8 +48,9 @@ fn add_lane(
     to: u16,
     lane: &ByteOut,
 ) -> Result<(), PlayRefusal>
-    ensures { OnOk result (words_at words.new.items
+    ensures frames { OnOk result (words_at words.new.items
         ≡ words_at words.old.items ++ lane_words party to (pushed_on lane.now)) }
+    ensures refused { IfErr result IsInside }
 {
     if to == party || lane.is_empty() {
         return Ok(());
@@ -70,8 +73,9 @@ pub fn batch_words(
     outs: &[ByteOut],
 ) -> Result<Vec<Vec<u8>>, PlayRefusal>
     requires few { length outs.now < 2 ^ 16 }
-    ensures { IfOk result (λ words. words_at words.items
+    ensures words { IfOk result (λ words. words_at words.items
         ≡ entry_words (file_of file.now) party entries.now (map pushed_on outs.now)) }
+    ensures refused { IfErr result IsInside }
 {
     let lines = lines_of_entries(alloc, file, party, entries)?;
     let mut words = begin_batch(alloc, lines)?;

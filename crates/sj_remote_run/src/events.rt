@@ -1,6 +1,7 @@
 //! The event of an entry, done again.
-ghost use Rattle.std.specs.Prelude.{OnOk};
+ghost use Rattle.std.specs.Prelude.{IfErr, OnOk};
 ghost use Rattle.sj_remote_run.specs.Again.{IsRedone};
+ghost use Rattle.sj_remote_run.specs.Asked.{IsInside};
 
 use crate::PlayRefusal;
 use sj_end::{CLOCK_END, Entry, Event};
@@ -9,7 +10,9 @@ use sj_lane::{InLane, PopRefusal};
 use sj_node::Node;
 
 /// What an entry that isn't done again means.
-fn redo_means(refusal: RedoRefusal) -> PlayRefusal {
+fn redo_means(refusal: RedoRefusal) -> PlayRefusal
+    ensures { IsInside result }
+{
     match refusal {
         RedoRefusal::Misfit => PlayRefusal::LogFault,
         RedoRefusal::NoMemory => PlayRefusal::NoMemory,
@@ -18,7 +21,8 @@ fn redo_means(refusal: RedoRefusal) -> PlayRefusal {
 
 /// Does the event of an entry again. A frame that it takes comes from its lane.
 pub(crate) fn redo(node: &mut Node, ins: &mut [ByteIn], entry: &Entry) -> Result<(), PlayRefusal>
-    ensures { OnOk result (IsRedone node.old node.new entry.now) }
+    ensures redone { OnOk result (IsRedone node.old node.new entry.now) }
+    ensures refused { IfErr result IsInside }
 {
     if node.clock() >= CLOCK_END {
         return Err(PlayRefusal::LogFault);

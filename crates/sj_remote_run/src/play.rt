@@ -1,11 +1,13 @@
 //! A party, played over a connection.
-ghost use Rattle.std.specs.Prelude.{◌≡◌, ◌<◌, [], IfOk, get_or, length};
+ghost use Rattle.std.specs.Prelude.{◌≡◌, ◌<◌, [], IfErr, IfOk, get_or, length};
 ghost use Rattle.sj_check.specs.Held.{file_in};
 ghost use Rattle.sj_lang.specs.FileView.{file_of};
 ghost use Rattle.sj_node.specs.Node.{log_of};
 ghost use Rattle.sj_node.specs.Reading.{party_of};
 ghost use Rattle.sj_remote.specs.Conn.{sink_of};
-ghost use Rattle.sj_remote.specs.Streams.{keys_of, seen_of};
+ghost use Rattle.sj_party.specs.CanonicalFile.{file_text};
+ghost use Rattle.sj_remote.specs.Streams.{keys_of, log_keys, seen_of};
+ghost use Rattle.sj_remote_run.specs.Asked.{IsCause, IsInPlay, IsOfStreams, sign_count};
 ghost use Rattle.sj_remote_run.specs.Played.{GoesOn, IsPlayed};
 ghost use Rattle.sj_remote_run.specs.Sent.{text_sent};
 ghost use Rattle.sj_remote_run.specs.Turns.{node_in};
@@ -45,10 +47,13 @@ fn go_on<S: Source, K: Sink>(
     streams: &mut Streams,
 ) -> Result<Outcome, PlayRefusal>
     requires empty { log_of (node_in player) ≡ [] }
-    ensures { IfOk result (λ o. GoesOn (text_sent (file_of (file_in accepted.now)) how.now.run.now
+    ensures goes { IfOk result (λ o. GoesOn (text_sent (file_of (file_in accepted.now)) how.now.run.now
         (words_at (keys_of streams.old)) (party_of (node_in player)))
         (get_or (seen_of streams.old) (party_of (node_in player)) 0) (node_in player) o
         (K.written (sink_of conn.old)) (K.written (sink_of conn.new))) }
+    ensures refused { IfErr result (IsCause S.left S.faults S.has_ended K.faults
+        (IsOfStreams (words_at (keys_of streams.old)) (party_of (node_in player)))
+        conn.old conn.new) }
 {
     let file = accepted.file();
     let mut player = player;
@@ -76,8 +81,12 @@ pub fn play_party<S: Source + Drop, K: Sink + Drop>(
     how: &Play,
 ) -> Result<Outcome, PlayRefusal>
     requires { how.now.party < length (file_of (file_in accepted.now)).parties }
-    ensures { IfOk result (λ o. IsPlayed (file_of (file_in accepted.now)) how.now.run.now
+    ensures played { IfOk result (λ o. IsPlayed (file_of (file_in accepted.now)) how.now.run.now
         how.now.party o (K.written (sink_of conn.old)) (K.written (sink_of conn.new))) }
+    ensures refused { IfErr result (IsCause S.left S.faults S.has_ended K.faults
+        (IsInPlay (sign_count how.now.password) (file_text (file_of (file_in accepted.now)))
+        (log_keys how.now.run.now (length (file_of (file_in accepted.now)).parties))
+        how.now.party) conn.old conn.new) }
 {
     sign_in(alloc, conn, how.user, how.password)?;
     share(alloc, conn, accepted.file(), how.run)?;

@@ -1,5 +1,7 @@
 //! What waits at a node, pushed on its lanes.
+ghost use Rattle.std.specs.Prelude.{IfErr};
 ghost use Rattle.sj_node.specs.Reading.{TakesOut};
+ghost use Rattle.sj_remote_run.specs.Asked.{IsInside};
 
 use crate::PlayRefusal;
 use crate::causes::spell_means;
@@ -10,7 +12,8 @@ use std::alloc::Global;
 
 /// Pushes what waits for a party on its lane.
 fn push_out(node: &mut Node, to: u16, lane: &mut ByteOut) -> Result<(), PlayRefusal>
-    ensures { TakesOut node.old node.new }
+    ensures node { TakesOut node.old node.new }
+    ensures refused { IfErr result IsInside }
 {
     for _ in 0..u64::MAX {
         match node.take_out(to) {
@@ -32,7 +35,8 @@ pub fn push_all(
     node: &mut Node,
     lanes: &mut Lanes<ByteOut, ByteIn>,
 ) -> Result<(), PlayRefusal>
-    ensures { TakesOut node.old node.new }
+    ensures node { TakesOut node.old node.new }
+    ensures refused { IfErr result IsInside }
 {
     for to in 0..node.targets() {
         if usize::from(to) >= lanes.outs.len() {

@@ -1,6 +1,7 @@
 //! Frames, taken out of entries that came.
-ghost use Rattle.std.specs.Prelude.{◌≡◌, ◌+◌, IfOk, OnOk, decimal, get_or, length, set};
+ghost use Rattle.std.specs.Prelude.{◌≡◌, ◌+◌, IfErr, IfOk, OnOk, decimal, get_or, length, set};
 ghost use Rattle.sj_remote.specs.Streams.{keys_of, seen_of};
+ghost use Rattle.sj_remote_run.specs.Asked.{IsInside};
 
 use crate::PlayRefusal;
 use sj_engine::ByteIn;
@@ -14,6 +15,7 @@ pub(crate) fn see(streams: &mut Streams, stream: usize, more: usize) -> Result<(
     ensures keys { keys_of streams.new ≡ keys_of streams.old }
     ensures seen { OnOk result (seen_of streams.new
         ≡ set (seen_of streams.old) stream (get_or (seen_of streams.old) stream 0 + more)) }
+    ensures refused { IfErr result IsInside }
 {
     match streams.see(stream, more) {
         Ok(()) => Ok(()),
@@ -34,9 +36,11 @@ pub(crate) fn take_frames(
         (came.now.first ≡ get_or (seen_of streams.old) came.now.stream 0 + 1) }
     ensures seen { OnOk result (seen_of streams.new ≡ set (seen_of streams.old) came.now.stream
         (get_or (seen_of streams.old) came.now.stream 0 + length came.now.entries.items)) }
+    ensures refused { IfErr result IsInside }
 {
+    // The streams that are read are the parties', and there is a lane from each.
     if came.stream >= ins.len() || came.stream >= streams.count() {
-        return Err(PlayRefusal::NoReply);
+        return Err(PlayRefusal::NoFrame);
     }
     if came.first != streams.last(came.stream) + 1 {
         return Err(PlayRefusal::NoFrame);
@@ -52,7 +56,8 @@ pub(crate) fn take_frames(
 
 /// The party's number as the name of its frames.
 pub(crate) fn name_of(alloc: Global, party: u16) -> Result<Vec<u8>, PlayRefusal>
-    ensures { IfOk result (λ name. name.items ≡ decimal party) }
+    ensures name { IfOk result (λ name. name.items ≡ decimal party) }
+    ensures refused { IfErr result IsInside }
 {
     let mut name = Vec::new(alloc);
     put_number(&mut name, u64::from(party))?;

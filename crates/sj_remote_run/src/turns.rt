@@ -1,14 +1,17 @@
 //! A turn's talk with the server: what a party noted is added, and what comes then is taken.
-ghost use Rattle.std.specs.Prelude.{◌≡◌, ◌+◌, ◌++◌, OnOk, Some, get_or, map};
+ghost use Rattle.std.specs.Prelude.{◌≡◌, ◌+◌, ◌++◌, IfErr, OnOk, Some, get_or, map};
 ghost use Rattle.sj_base.specs.Stream.{put_behind};
 ghost use Rattle.sj_engine.specs.Lanes.{pushed_on};
 ghost use Rattle.sj_lang.specs.FileView.{file_of};
 ghost use Rattle.sj_node.specs.Reading.{party_of};
 ghost use Rattle.sj_remote.specs.Conn.{sink_of};
 ghost use Rattle.sj_remote.specs.Streams.{keys_of, seen_of};
+ghost use Rattle.sj_remote_run.specs.Asked.{IsCause, IsOfStreams, IsUntaken, Talks};
+ghost use Rattle.sj_remote_run.specs.Refused.{IsNotAdded, IsUnanswered};
 ghost use Rattle.sj_remote_run.specs.Turns.{added_count, batch_text, next_seen, node_in, outs_in};
 ghost use Rattle.sj_resp.specs.Spelling.{command_text};
 ghost use Rattle.sj_streams.specs.Commands.{read_words};
+ghost use Rattle.sj_streams.specs.Views.{came_view};
 ghost use Rattle.sj_streams.specs.Words.{words_at};
 
 use crate::PlayRefusal;
@@ -26,7 +29,10 @@ use std::alloc::Global;
 
 /// Whether the batch was added, where something was noted.
 fn added<S: Source, K: Sink>(conn: &mut Conn<S, K>, noted: &[Entry]) -> Result<(), PlayRefusal>
-    ensures { sink_of conn.new ≡ sink_of conn.old }
+    ensures sink { sink_of conn.new ≡ sink_of conn.old }
+    ensures talked { OnOk result (Talks S.left S.faults K.faults conn.old conn.new) }
+    ensures refused { IfErr result (IsUnanswered S.left S.faults S.has_ended K.faults
+        conn.old conn.new IsNotAdded) }
 {
     if noted.is_empty() {
         return Ok(());
@@ -48,11 +54,14 @@ fn take_all(
         ≡ get_or (seen_of streams.old) (party_of (node_in player.old)) 0) }
     ensures keys { keys_of streams.new ≡ keys_of streams.old }
     ensures node { node_in player.new ≡ node_in player.old }
+    ensures refused { IfErr result
+        (IsUntaken (party_of (node_in player.old)) (map came_view all.now)) }
 {
     let party = player.node.party();
     let name = name_of(alloc, party)?;
     for one in all {
-        if one.stream == usize::from(party) {
+        let own = one.stream == usize::from(party);
+        if own {
             return Err(PlayRefusal::Overtaken);
         }
         take_frames(streams, &mut player.lanes.ins, &name, one)?;
@@ -81,6 +90,10 @@ pub fn exchange<S: Source, K: Sink>(
         ≡ get_or (seen_of streams.old) (party_of (node_in player.old)) 0 + added_count noted.now) }
     ensures keys { keys_of streams.new ≡ keys_of streams.old }
     ensures node { node_in player.new ≡ node_in player.old }
+    ensures talked { OnOk result (Talks S.left S.faults K.faults conn.old conn.new) }
+    ensures refused { IfErr result (IsCause S.left S.faults S.has_ended K.faults
+        (IsOfStreams (words_at (keys_of streams.old)) (party_of (node_in player.old)))
+        conn.old conn.new) }
 {
     let mut text = Vec::new(alloc);
     put_batch(alloc, &mut text, file, player, streams, noted)?;
@@ -112,9 +125,14 @@ pub fn add<S: Source, K: Sink>(
         ≡ get_or (seen_of streams.old) (party_of (node_in player.old)) 0 + added_count noted.now) }
     ensures keys { keys_of streams.new ≡ keys_of streams.old }
     ensures node { node_in player.new ≡ node_in player.old }
+    ensures talked { OnOk result (Talks S.left S.faults K.faults conn.old conn.new) }
+    ensures refused { IfErr result (IsCause S.left S.faults S.has_ended K.faults
+        (IsOfStreams (words_at (keys_of streams.old)) (party_of (node_in player.old)))
+        conn.old conn.new) }
 {
     let mut text = Vec::new(alloc);
     put_batch(alloc, &mut text, file, player, streams, noted)?;
     send(conn, &text)?;
-    added(conn, noted)
+    added(conn, noted)?;
+    Ok(())
 }

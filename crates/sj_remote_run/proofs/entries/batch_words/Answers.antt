@@ -15,7 +15,7 @@ loop-to-preserved c =
     let before = words_at c.loop-to.words.items in
     let others = frames_from party (to + 1) (map pushed_on (drop (to + 1) outs)) in
     c.loop-to.invariant ∙ ap (λ ws. before ++ ws) (frames_step party outs to lane c.loop-to-test.true (c.index-outs-from.is ∙ ap (λ i. get_or outs i lane) at))
-    ∙ sym (append_assoc before (lane_words party to (pushed_on lane)) others) ∙ ap (λ ws. ws ++ others) (sym c.in_ok-add_lane.ensures)
+    ∙ sym (append_assoc before (lane_words party to (pushed_on lane)) others) ∙ ap (λ ws. ws ++ others) (sym c.in_ok-add_lane.ensures.frames)
 
-pub returns : goal.returns
-returns c = sym (c.loop-to.invariant ∙ frames_end c.args.party c.args.outs.now c.loop-to.to _ c.loop-to-test.false)
+pub returns-clause-words : goal.returns-clause-words
+returns-clause-words c = sym (c.loop-to.invariant ∙ frames_end c.args.party c.args.outs.now c.loop-to.to _ c.loop-to-test.false)

@@ -1,4 +1,4 @@
-use Rattle.std.proofs.Common.{◌≡◌, ◌+◌, Some, get_or, map, ap, ◌∙◌}
+use Rattle.std.proofs.Common.{◌≡◌, ◌+◌, Some, get_or, map, refl, ap, ◌∙◌}
 use Rattle.sj_base.specs.Stream.{put_behind}
 use Rattle.sj_check.specs.Held.{file_in}
 use Rattle.sj_engine.specs.Lanes.{pushed_on}
@@ -7,14 +7,28 @@ use Rattle.sj_node.specs.Reading.{party_of}
 use Rattle.sj_remote.specs.Conn.{sink_of}
 use Rattle.sj_remote.specs.Streams.{keys_of, seen_of}
 use Rattle.sj_streams.specs.Words.{words_at}
+use Rattle.sj_remote_run.specs.Asked.{IsCause, IsOfStreams}
 use Rattle.sj_remote_run.specs.Sent.{text_sent}
 use Rattle.sj_remote_run.specs.Turns.{added_count, node_in, outs_in}
 use Rattle.sj_remote_run.proofs.GoesLemmas.{goes_ended, goes_party}
-use Rattle.sj_remote_run.proofs.TurnLemmas.{going_same, same_batch, same_number, same_turn, turn_adds, turn_asks}
+use Rattle.sj_remote_run.proofs.CauseLemmas.{cause_later, err_as, inside_cause, streams_then}
+use Rattle.sj_remote_run.proofs.TalkedLemmas.{talks_both, talks_none}
+use Rattle.sj_remote_run.proofs.TurnLemmas.{going_none, going_same, same_batch, same_number, same_turn, turn_adds, turn_asks}
 use Rattle.sj_remote_run.proofs.play.go_on.Goals as goal
 
-pub returns-then-eq : goal.returns-then-eq
-returns-then-eq g c =
+pub loop-init : goal.loop-init
+loop-init g c =
+    let file = file_of (file_in c.args.accepted.now) in
+    let old = node_in c.args.player in
+    record {
+      going = going_none (text_sent file c.args.how.now.run.now (words_at (keys_of c.args.streams.now)) (party_of old)) (get_or (seen_of c.args.streams.now) (party_of old) 0) old
+          (g.K.Sink.written (sink_of c.args.conn.now)) refl c.requires.empty;
+      keys = refl;
+      talked = talks_none g.S.Source.left g.S.Source.faults g.K.Sink.faults c.args.conn.now;
+    }
+
+pub returns-then-eq-clause-goes : goal.returns-then-eq-clause-goes
+returns-then-eq-clause-goes g c =
     let written = g.K.Sink.written in
     let file = file_of (file_in c.args.accepted.now) in
     let keys = words_at (keys_of c.args.streams.now) in
@@ -22,7 +36,7 @@ returns-then-eq g c =
     let next = c.in_ok-next.next in
     let noted = c.in_ok-next.noted.items in
     let seen = seen_of c.loop.streams in
-    let goes = c.in_ok-next.ensures in
+    let goes = c.in_ok-next.ensures.goes in
     let going = c.loop.invariant.going in
     let party : party_of (node_in next) ≡ party_of old = goes_party c.loop.player next c.in_ok-next.outcome noted goes ∙ going.party in
     let same = same_batch (words_at (keys_of c.loop.streams)) keys seen (file_of c.file-file.result.now) file (party_of (node_in next)) (party_of old) c.deref.result.now noted (map pushed_on (outs_in next))
@@ -38,8 +52,8 @@ returns-then-eq g c =
       ended = goes_ended c.loop.player next c.in_ok-next.outcome noted goes;
     }
 
-pub returns-then-not-branch : goal.returns-then-not-branch
-returns-then-not-branch g c =
+pub returns-then-not-branch-clause-goes : goal.returns-then-not-branch-clause-goes
+returns-then-not-branch-clause-goes g c =
     let written = g.K.Sink.written in
     let file = file_of (file_in c.args.accepted.now) in
     let keys = words_at (keys_of c.args.streams.now) in
@@ -47,7 +61,7 @@ returns-then-not-branch g c =
     let next = c.in_ok-next.next in
     let noted = c.in_ok-next.noted.items in
     let seen = seen_of c.loop.streams in
-    let goes = c.in_ok-next.ensures in
+    let goes = c.in_ok-next.ensures.goes in
     let going = c.loop.invariant.going in
     let party : party_of (node_in next) ≡ party_of old = goes_party c.loop.player next c.in_ok-next.outcome noted goes ∙ going.party in
     let here = ap words_at c.loop.invariant.keys in
@@ -73,7 +87,7 @@ loop-preserved g c =
     let next = c.in_ok-next.next in
     let noted = c.in_ok-next.noted.items in
     let seen = seen_of c.loop.streams in
-    let goes = c.in_ok-next.ensures in
+    let goes = c.in_ok-next.ensures.goes in
     let going = c.loop.invariant.going in
     let party : party_of (node_in next) ≡ party_of old = goes_party c.loop.player next c.in_ok-next.outcome noted goes ∙ going.party in
     let here = ap words_at c.loop.invariant.keys in
@@ -87,10 +101,11 @@ loop-preserved g c =
           (same_number (seen_of c.exchange.new.streams) seen (party_of (node_in next)) (party_of old) c.deref-in-loop.result.now noted party c.deref-in-loop.ensures.value c.in_ok-exchange.ensures.number)
           c.in_ok-exchange.ensures.node t;
       keys = c.in_ok-exchange.ensures.keys ∙ c.loop.invariant.keys;
+      talked = talks_both g.S.Source.left g.S.Source.faults g.K.Sink.faults c.args.conn.now c.loop.conn c.exchange.new.conn c.loop.invariant.talked c.in_ok-exchange.ensures.talked;
     }
 
-pub returns : goal.returns
-returns g c =
+pub returns-clause-goes : goal.returns-clause-goes
+returns-clause-goes g c =
     let going = c.loop.invariant.going in
     record {
       commands = going.commands;
@@ -100,3 +115,52 @@ returns g c =
       sent = going.sent;
       ended = λ is. absurd cc;
     }
+
+pub returns-in_err-next-clause-refused : goal.returns-in_err-next-clause-refused
+returns-in_err-next-clause-refused g c =
+    let left = g.S.Source.left in
+    let faults = g.S.Source.faults in
+    let has_ended = g.S.Source.has_ended in
+    let unwritten = g.K.Sink.faults in
+    let next = IsOfStreams (words_at (keys_of c.args.streams.now)) (party_of (node_in c.args.player)) in
+    let a = c.args.conn.now in
+    let e = c.in_err-next.field-0.0 in
+    err_as _ e (IsCause left faults has_ended unwritten next a c.loop.conn) c.from_residual.ensures.1 (inside_cause left faults has_ended unwritten next a c.loop.conn e c.in_err-next.ensures.refused)
+
+pub returns-in_err-add-clause-refused : goal.returns-in_err-add-clause-refused
+returns-in_err-add-clause-refused g c =
+    let left = g.S.Source.left in
+    let faults = g.S.Source.faults in
+    let has_ended = g.S.Source.has_ended in
+    let unwritten = g.K.Sink.faults in
+    let keys = words_at (keys_of c.args.streams.now) in
+    let here = words_at (keys_of c.loop.streams) in
+    let party = party_of (node_in c.args.player) in
+    let next = c.in_ok-next.next in
+    let same : party_of (node_in next) ≡ party = goes_party c.loop.player next c.in_ok-next.outcome c.in_ok-next.noted.items c.in_ok-next.ensures.goes ∙ c.loop.invariant.going.party in
+    let a = c.args.conn.now in
+    let b = c.loop.conn in
+    let t = c.loop.invariant.talked in
+    let e = c.in_err-add.field-0.0 in
+    err_as _ e (IsCause left faults has_ended unwritten (IsOfStreams keys party) a c.add.new.conn) c.from_residual-in_err-add.ensures.1
+    (cause_later left faults has_ended unwritten (IsOfStreams here (party_of (node_in next))) (IsOfStreams keys party) t.0 a b c.add.new.conn t.1
+    (streams_then t.0 here keys (party_of (node_in next)) party (ap words_at c.loop.invariant.keys) same) e c.in_err-add.ensures.refused)
+
+pub returns-in_err-exchange-clause-refused : goal.returns-in_err-exchange-clause-refused
+returns-in_err-exchange-clause-refused g c =
+    let left = g.S.Source.left in
+    let faults = g.S.Source.faults in
+    let has_ended = g.S.Source.has_ended in
+    let unwritten = g.K.Sink.faults in
+    let keys = words_at (keys_of c.args.streams.now) in
+    let here = words_at (keys_of c.loop.streams) in
+    let party = party_of (node_in c.args.player) in
+    let next = c.in_ok-next.next in
+    let same : party_of (node_in next) ≡ party = goes_party c.loop.player next c.in_ok-next.outcome c.in_ok-next.noted.items c.in_ok-next.ensures.goes ∙ c.loop.invariant.going.party in
+    let a = c.args.conn.now in
+    let b = c.loop.conn in
+    let t = c.loop.invariant.talked in
+    let e = c.in_err-exchange.field-0.0 in
+    err_as _ e (IsCause left faults has_ended unwritten (IsOfStreams keys party) a c.exchange.new.conn) c.from_residual-in_err-exchange.ensures.1
+    (cause_later left faults has_ended unwritten (IsOfStreams here (party_of (node_in next))) (IsOfStreams keys party) t.0 a b c.exchange.new.conn t.1
+    (streams_then t.0 here keys (party_of (node_in next)) party (ap words_at c.loop.invariant.keys) same) e c.in_err-exchange.ensures.refused)

@@ -1,8 +1,8 @@
 use Rattle.std.proofs.Common.{sym}
 use Rattle.sj_remote_run.proofs.player.Player.go.Goals as goal
 
-pub returns : goal.returns
-returns c =
+pub returns-clause-goes : goal.returns-clause-goes
+returns-clause-goes c =
     let b = c.batches.ensures.rounds in
     record {
       from = c.new-worker.result;
@@ -16,7 +16,7 @@ returns c =
       sent = c.in-Ok.ensures.sent;
       stopped = c.in-Ok.ensures.stop;
       finished = c.finished.result;
-      stands = sym c.in_ok-outcome.ensures;
+      stands = sym c.in_ok-outcome.ensures.outcome;
       ended = c.finished.ensures.0;
       taken = c.into_parts-lanes.ensures.node;
       left = sym c.into_parts-lanes.ensures.lanes;
