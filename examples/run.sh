@@ -1,6 +1,6 @@
 #!/bin/sh
 # Runs each example, and compares its output and its status with what they have to be; checks the slips of beginners, the files
-# of editors/ and the scripts of cli/, too.
+# of editors/, the scripts of cli/ and the clients of clients/, too.
 # usage: examples/run.sh [PROGRAM [WHY]], where PROGRAM is ./sj at the top of this repository if left out, and WHY ./sjwhy; all
 # programs are then built first, and the words of the scripts are tried with them, and one call of each runs in a copy of the
 # repository, too, where nothing is built, which takes some minutes. With PROGRAM alone, what `sjwhy` says isn't tried.
@@ -98,6 +98,9 @@ bash "$here/../cli/test.sh" || failed=$((failed + 1))
 if [ "$fresh" -eq 0 ] && ! bash "$here/../cli/programs.sh"; then
     failed=$((failed + 1))
 fi
+
+# The clients of a party by lines, with `sjseat` where it is built.
+sh "$here/../clients/try.sh" || failed=$((failed + 1))
 
 # The colours of editors.
 if ! command -v python3 >/dev/null; then

@@ -1,0 +1,12 @@
+mod FormLemmas
+mod GoLemmas
+mod LineLemmas
+mod NameLemmas
+mod NumberLemmas
+mod OpenLemmas
+mod RefusedLemmas
+mod ReplyLemmas
+mod RuleLemmas
+mod SendLemmas
+mod TakeLemmas
+mod WordLemmas

@@ -1,0 +1,11 @@
+pub mod Forms
+pub mod Heard
+pub mod Lines
+pub mod Names
+pub mod Opens
+pub mod Party
+pub mod Reading
+pub mod Replies
+pub mod Rules
+pub mod Settled
+pub mod Steps

@@ -1,0 +1,3 @@
+mod PlayedLemmas
+mod SendLemmas
+mod VerdictLemmas
