@@ -17,7 +17,7 @@ import calls
 import files
 
 SJPARTY, SJJOIN = calls.program("sjparty"), calls.program("sjjoin")
-KILLS = int(os.environ.get("KILLS", 40))  # of the parties of a file
+KILLS = int(os.environ.get("KILLS", 90))  # of the parties of a file
 PATIENCE = float(os.environ.get("PATIENCE", 120))  # the seconds after which a file is late
 ENDS = {0: b"ended", 6: b"waits", 7: b"limit"}
 AGAIN = {20: b"no server", 23: b"overtaken", 30: b"connection lost"}
@@ -243,9 +243,18 @@ class Process:
         self.last = text.rstrip(b"\n").split(b"\n")[-1]
         return status
 
+    def is_connected(self):
+        """Whether it holds a socket."""
+        fds = "/proc/%d/fd" % self.child
+        try:
+            return any(os.readlink("%s/%s" % (fds, fd)).startswith("socket:") for fd in os.listdir(fds))
+        except OSError:
+            return False
+
     def kill(self):
+        """Its status, which is another than that of the signal where it had ended before."""
         os.kill(self.child, signal.SIGKILL)
-        self.end(os.waitstatus_to_exitcode(os.waitpid(self.child, 0)[1]))
+        return self.end(os.waitstatus_to_exitcode(os.waitpid(self.child, 0)[1]))
 
 
 class Run:
@@ -256,7 +265,7 @@ class Run:
         self.names = re.findall(r"(?m)^\s*party (\w+)", text.decode())
         self.path = "%s/file.sj" % folder
         self.name = "t%d" % number
-        self.env, self.words, self.parties = dict(calls.USUAL), [], {}
+        self.env, self.words, self.parties, self.ended = dict(calls.USUAL), [], {}, set()
         with open(self.path, "wb") as it:
             it.write(text)
 
@@ -291,16 +300,40 @@ class Run:
                 if self.rng.random() < twice:
                     self.parties[name].append(self.start(name, port))
                     self.tally.times["second processes"] += 1
+                elif not self.kill(name, other):
+                    return False
                 else:
-                    for it in self.parties[name]:
-                        it.kill()
-                        self.tally.times["kills"] += 1
                     self.parties[name] = [self.start(name, port)]
             for name in self.names:
                 if name not in done and not self.look(name, done, port, kills > 0, other):
                     return False
             time.sleep(0.001)
         return True
+
+    def kill(self, name, other):
+        """Kills the processes of a party. One that had ended by itself counts as no kill, and must have ended as it may. Answers whether all had."""
+        processes, self.parties[name], good = self.parties[name], [], True
+        for it in processes:
+            connected = it.is_connected()
+            status = it.kill()
+            if status == -signal.SIGKILL:
+                self.tally.times["kills"] += 1
+                self.tally.times["kills of a process with a connection"] += connected
+                self.tally.times["kills before the party's end"] += name not in self.ended
+            elif self.is_last(name, it, status, other) is None:
+                good = self.bad("%s: %s %s" % (name, status, it.last))
+        return good
+
+    def is_last(self, name, it, status, other):
+        """Whether a party is done where a process ended by itself with that status, or goes on; none where it may not end so."""
+        if status in ENDS and ENDS[status] in it.last:
+            self.ended.add(name)
+            return True
+        for known in (AGAIN, other):
+            if status in known and known[status] in it.last:
+                self.tally.times[known[status].decode()] += 1
+                return known is other
+        return None
 
     def look(self, name, done, port, goes_on, other):
         """What became of the processes of a party."""
@@ -309,16 +342,13 @@ class Run:
             status = it.status()
             if status is None:
                 alive.append(it)
-            elif status in ENDS and ENDS[status] in it.last:
-                done.add(name)
-            elif status in AGAIN and AGAIN[status] in it.last:
-                self.tally.times[AGAIN[status].decode()] += 1
-            elif status in other and other[status] in it.last:
-                self.tally.times[other[status].decode()] += 1
-                done.add(name)
-            else:
+                continue
+            is_last = self.is_last(name, it, status, other)
+            if is_last is None:
                 self.parties[name] = alive
                 return self.bad("%s: %s %s" % (name, status, it.last))
+            if is_last:
+                done.add(name)
         if name in done and goes_on:
             # it is killed once more where it ended, too
             done.discard(name)
@@ -473,7 +503,7 @@ def one(number, tally):
         shutil.rmtree(folder, ignore_errors=True)
 
 
-SEED, COUNT = calls.arguments(700)
+SEED, COUNT = calls.arguments(500)
 if __name__ == "__main__":
     if not shutil.which("redis-server"):
         print("no redis-server here: apt-get install redis-server")

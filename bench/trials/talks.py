@@ -49,9 +49,6 @@ def played(rng, text, party, log):
     return lines, wanted
 
 
-first = open(TOP + "/examples/first.sj", "rb").read()
-if not knows(["talk", "0"], talk(first, [])):
-    sys.exit(2)
 corpus = [open(f, "rb").read() for f in sorted(glob.glob(TOP + "/examples/*.sj"))]
 
 
@@ -71,6 +68,10 @@ def one(number, tally):
         tally.one(got == due, "party %d: %s" % (party, got[0]), talk(text, lines))
 
 
-tally = spread(count, one)
-print("%d with sessions that others open" % tally.times["with sessions that others open"])
-tally.end()
+if __name__ == "__main__":
+    first = open(TOP + "/examples/first.sj", "rb").read()
+    if not knows(["talk", "0"], talk(first, [])):
+        sys.exit(2)
+    tally = spread(count, one)
+    print("%d with sessions that others open" % tally.times["with sessions that others open"])
+    tally.end()
