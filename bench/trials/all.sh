@@ -23,6 +23,7 @@ trial memory.py 60 - 2000
 trial streams.py 40 - 500
 trial bytes.py 5000 - 1000000
 trial remote.py 28 - 500
+trial seats.py 20 - 2000
 trial seat_runs.py 20 400 100 - 500 10000 2000
 trial soak.py 0.5 - 30
 exit "$status"
