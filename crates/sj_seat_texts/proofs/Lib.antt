@@ -1,2 +1,3 @@
+mod AddLemmas
 mod CopyLemmas
 mod OnceLemmas

@@ -1,5 +1,5 @@
 -- Tables in which each word stands once, and what a word that is added does to them.
-use Rattle.std.proofs.Common.{if◌then◌else◌, ◌≡◌, ◌≢◌, ℕ, zero, suc, ◌+◌, ◌<◌, ◌≤◌, max, nat_lt, Bool, true, false, List, [], ◌∷◌, ◌++◌, length, take, slice_get, Option, Some, None, refl, ap, sym, ◌∙◌, arith, subst, inl, inr, ◌⊎◌, length-append, ltb-false}
+use Rattle.std.proofs.Common.{if◌then◌else◌, ◌≡◌, ◌≢◌, ℕ, zero, suc, ◌+◌, ◌<◌, ◌≤◌, max, nat_lt, Bool, true, false, List, [], ◌∷◌, ◌++◌, length, take, slice_get, Some, None, refl, ap, sym, ◌∙◌, arith, inl, inr, ◌⊎◌, length-append, ltb-false}
 use Rattle.std.proofs.lemmas.Bool.{cases_lt}
 use Rattle.std.proofs.lemmas.Option.{slice_get_past}
 use Rattle.sj_lang.specs.Words.{IsAbsent, IsFirstIndex}
@@ -7,13 +7,13 @@ use Rattle.sj_seat_texts.specs.Once.{IsCounted, IsEachOnce, most_texts}
 
 -- ---- what stands where
 
-get_within : (xs : List (List ℕ)) (k : ℕ) (x : List ℕ) → slice_get xs k ≡ Some x → k < length xs
+pub get_within : (xs : List (List ℕ)) (k : ℕ) (x : List ℕ) → slice_get xs k ≡ Some x → k < length xs
 get_within xs k x e = elim (cases_lt k (length xs)) [
   | inl lt ↦ lt
   | inr ge ↦ let none = slice_get_past xs k ge in absurd (cc)
 ]
 
-get_more : (xs ys : List (List ℕ)) (k : ℕ) (x : List ℕ) → slice_get xs k ≡ Some x → slice_get (xs ++ ys) k ≡ Some x
+pub get_more : (xs ys : List (List ℕ)) (k : ℕ) (x : List ℕ) → slice_get xs k ≡ Some x → slice_get (xs ++ ys) k ≡ Some x
 get_more [] ys k x e = cc
 get_more (a ∷ xs) ys zero x e = e
 get_more (a ∷ xs) ys (suc k) x e = get_more xs ys k x e
@@ -41,7 +41,7 @@ get_first (suc k) [] n x e lt = absurd (cc)
 get_first (suc k) (a ∷ xs) zero x e lt = e
 get_first (suc k) (a ∷ xs) (suc n) x e lt = get_first k xs n x e (omega (arith, lt))
 
-take_next : (n : ℕ) (xs : List (List ℕ)) (x : List ℕ) → slice_get xs n ≡ Some x → take n xs ++ x ∷ [] ≡ take (suc n) xs
+pub take_next : (n : ℕ) (xs : List (List ℕ)) (x : List ℕ) → slice_get xs n ≡ Some x → take n xs ++ x ∷ [] ≡ take (suc n) xs
 take_next n [] x e = absurd (cc)
 take_next zero (a ∷ xs) x e = let same : a ≡ x = cc in ap (λ y. y ∷ []) (sym same)
 take_next (suc n) (a ∷ xs) x e = ap (λ t. a ∷ t) (take_next n xs x e)

@@ -1,8 +1,8 @@
 //! The texts of a run, each under its number.
-ghost use Rattle.std.specs.Prelude.{◌≡◌, [], ◌∷◌, ◌++◌, IfOk, List, OnErr, OnOk, length, nat_lt, slice_get, if◌then◌else◌, ℕ};
+ghost use Rattle.std.specs.Prelude.{◌≡◌, [], ◌∷◌, ◌++◌, IfOk, List, OnErr, OnOk, length, nat_lt, slice_get, take, if◌then◌else◌, ℕ};
 ghost use Rattle.std.specs.Option.{option_copied};
 ghost use Rattle.sj_lang.specs.Words.{IsFirstIndex};
-ghost use Rattle.sj_seat_texts.specs.Once.{IsEachOnce};
+ghost use Rattle.sj_seat_texts.specs.Once.{IsEachOnce, with_words};
 
 use sj_base::NoMemory;
 use sj_lang::Words;
@@ -88,11 +88,14 @@ impl Texts {
         self.all
     }
 
-    /// Puts the texts after those of a table that has the first of them, as that of the file has. So
-    /// each number stands for its text there, too.
+    /// Puts the texts after those of a table, but those that are there. In a table that has the first
+    /// of them, as that of the file has, each number stands for its text then. Out of memory, the
+    /// first of them may be there.
     pub fn add_to(&self, table: &mut Words) -> Result<(), NoMemory>
-        ensures { OnOk result ((more : List (List ℕ)) →
+        ensures ok { OnOk result (table.new ≡ with_words table.old self.now) }
+        ensures file { OnOk result ((more : List (List ℕ)) →
             self.now ≡ table.old ++ more → table.new ≡ self.now) }
+        ensures err { OnErr result ((n : ℕ) × (table.new ≡ with_words table.old (take n self.now))) }
     {
         for n in 0..self.count {
             if let Some(text) = self.all.get(n) {
