@@ -9,10 +9,10 @@ mod told;
 mod transcript;
 mod version;
 
-pub use lines::print_verdict;
+pub use lines::{print_verdict, put_sent};
 pub use log::print_line;
 pub use messages::print_message;
-pub use pieces::print_name;
-pub use told::{print_standing, print_told};
+pub use pieces::{Piece, print_name, put_line};
+pub use told::{print_standing, print_told, put_ends, put_stands};
 pub use transcript::print_transcript;
 pub use version::print_mark;

@@ -69,8 +69,9 @@ fn accepted_piece(name: Option<u16>) -> Piece
     }
 }
 
-/// A line for each message that the end sent, with the party that took it.
-pub(crate) fn put_sent(
+/// Puts a line for each message that the end sent, with the party that took it, after the text. Out
+/// of memory, it leaves a prefix of these lines.
+pub fn put_sent(
     text: &mut Vec<u8>,
     file: &File,
     end: EndId,

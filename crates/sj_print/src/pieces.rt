@@ -16,10 +16,12 @@ use sj_text::{put, put_int, put_number};
 
 /// A word of a line.
 #[derive(Clone, Copy)]
-pub(crate) enum Piece {
+pub enum Piece {
+    /// These bytes.
     Plain(&'static [u8]),
     Number(u64),
     Int(i64),
+    /// The end's session and side, with a dot between.
     End(EndId),
     /// The name of the party of that number.
     Party(u16),
@@ -39,8 +41,9 @@ pub(crate) fn put_byte(text: &mut Vec<u8>, byte: u8) -> Result<(), NoMemory>
     Ok(text.push(byte)?)
 }
 
-/// Puts a line of these after the text.
-pub(crate) fn put_line(
+/// Puts a line of these after the text, with one space between each two. Out of memory, it leaves a
+/// prefix of the line.
+pub fn put_line(
     text: &mut Vec<u8>,
     file: &File,
     front: &[Piece],

@@ -69,8 +69,9 @@ pub fn print_standing(
     Ok(())
 }
 
-// The line of each session, and those of the messages that its two ends sent.
-fn put_ends(text: &mut Vec<u8>, file: &File, ends: &[ToldEnd]) -> Result<(), NoMemory>
+/// Puts the line of each connection's session, and those of the messages that its two ends sent,
+/// after the text. Out of memory, it leaves a prefix of these lines.
+pub fn put_ends(text: &mut Vec<u8>, file: &File, ends: &[ToldEnd]) -> Result<(), NoMemory>
     requires few { length (file_of file.now).connects ≤ limits.connects }
     requires all { length ends.now ≡ 2 * length (file_of file.now).connects }
     ensures ok { OnOk result ((w : World) →
@@ -131,8 +132,8 @@ fn put_two_ends(
     )
 }
 
-// The line of each party.
-fn put_stands(text: &mut Vec<u8>, file: &File, stands: &[Stand]) -> Result<(), NoMemory>
+/// Puts the line of each party after the text. Out of memory, it leaves a prefix of these lines.
+pub fn put_stands(text: &mut Vec<u8>, file: &File, stands: &[Stand]) -> Result<(), NoMemory>
     requires { length stands.now ≡ length (file_of file.now).parties }
     ensures ok { OnOk result (text.new.items
         ≡ text.old.items ++ stand_lines (file_of file.now) stands.now) }
