@@ -27,7 +27,7 @@ use Rattle.sj_table.specs.Spots.{place_in}
 use Rattle.sj_seat.specs.Asked.{IsGuarded, IsOpenable, asked, want_in, want_opening}
 use Rattle.sj_seat.specs.Counted.{Counted}
 use Rattle.sj_seat.specs.Views.{ends_of, laned_at, may_of, node_of, seat_of, worker_of}
-use Rattle.sj_seat.specs.Went.{Keeps, Rests, SeatWork, Went}
+use Rattle.sj_seat.specs.Went.{Keeps, Rests, SameBounds, SeatWork, Went}
 use Rattle.sj_seat.specs.Wishes.{open_wished}
 use Rattle.sj_seat.specs.declared.guest.Guest.{Guest}
 use Rattle.sj_seat.specs.declared.refusal.SeatRefusal.{SeatRefusal}
@@ -95,6 +95,7 @@ keeps_later a b c x y = record {
 pub record Waited {O I G : Type 0} (outward : OutLane O) (inward : InLane I) (old new : Guest O I G) : Type 0 where
   pub keeps : Keeps (node_of old) (node_of new)
   pub rests : Rests old new
+  pub bounds : SameBounds old new
   pub counts : Counted outward inward (worker_of old) (worker_of new)
   pub work : (file : FileAt) (rest : List Call) → length file.parties ≡ parties_of (node_of old)
       → LaneWork outward.pushed outward.same inward.popped inward.same (seated_play file) max done (party_of (node_of old)) (laned_at (seat_of rest old) (worker_of old)) (laned_at (seat_of rest new) (worker_of new)) None
@@ -116,6 +117,7 @@ module _ {O I G : Type 0} (k : LaneLaws O I) where
   waited_none a = record {
     keeps = record { party = refl; parties = refl; connects = refl; table = refl; clock = omega arith };
     rests = record { ends = refl; calls = refl; may = refl };
+    bounds = record { texts = refl; looks = refl };
     counts = counted_itself k a.worker;
     work = λ file rest parties. lane_work_itself k.outward.pushed k.outward.same k.inward.popped k.inward.same k.out_itself k.out_later k.in_itself k.in_later (seated_play file) max done a.worker.node.party (laned_at (seat_of rest a) a.worker);
   }
@@ -132,12 +134,19 @@ module _ {O I G : Type 0} (k : LaneLaws O I) where
   pub waited_rests : (a l m : Guest O I G) → WaitedBy a l → Rests l m → Rests a m
   waited_rests a l m x y = rests_later a l m x.rests y
 
+  pub bounds_later : (a b c : Guest O I G) → SameBounds a b → SameBounds b c → SameBounds a c
+  bounds_later a b c x y = record { texts = y.texts ∙ x.texts; looks = y.looks ∙ x.looks }
+
+  pub waited_bounds : (a l m : Guest O I G) → WaitedBy a l → SameBounds l m → SameBounds a m
+  waited_bounds a l m x y = bounds_later a l m x.bounds y
+
   -- what waits on, as far as no stop stays
-  pub waited_more : (a l m : Guest O I G) → WaitedBy a l → Keeps (node_of l) (node_of m) → Rests l m → CountedBy k l.worker m.worker → kept_stop (stop_of (worker_of m)) ≡ None
+  pub waited_more : (a l m : Guest O I G) → WaitedBy a l → Keeps (node_of l) (node_of m) → Rests l m → SameBounds l m → CountedBy k l.worker m.worker → kept_stop (stop_of (worker_of m)) ≡ None
       → ((file : FileAt) (rest : List Call) → length file.parties ≡ parties_of (node_of l) → WentBy file rest rest l m) → WaitedBy a m
-  waited_more a l m x keeps rests counts kept went = record {
+  waited_more a l m x keeps rests bounds counts kept went = record {
     keeps = waited_keeps a l m x keeps;
     rests = waited_rests a l m x rests;
+    bounds = waited_bounds a l m x bounds;
     counts = counted_later k a.worker l.worker m.worker x.counts counts;
     work = λ file rest parties. all_told k file (seat_of rest a) (seat_of rest m) a.worker m.worker kept (waited_then a l m file rest rest x parties (went file rest));
   }
@@ -179,7 +188,7 @@ module _ {O I G : Type 0} (k : LaneLaws O I) where
       }
 
   -- an attempt in vain, where no stop stays
-  pub waited_vain : {T : Type 0} (a l m : Guest O I G) (r : Result T SeatRefusal) (e : SeatRefusal) → r ≡ Err e → WaitedBy a l → Keeps (node_of l) (node_of m) → OnErr r (Rests l m)
+  pub waited_vain : {T : Type 0} (a l m : Guest O I G) (r : Result T SeatRefusal) (e : SeatRefusal) → r ≡ Err e → WaitedBy a l → Keeps (node_of l) (node_of m) → OnErr r (Rests l m) → SameBounds l m
       → CountedBy k l.worker m.worker → kept_stop (stop_of (worker_of m)) ≡ None → ((file : FileAt) (rest : List Call) → length file.parties ≡ parties_of (node_of l) → OnErr r (WentBy file rest rest l m)) → WaitedBy a m
-  waited_vain a l m (Ok o) e is x keeps rests counts kept went = absurd (cc is)
-  waited_vain a l m (Err d) e is x keeps rests counts kept went = waited_more a l m x keeps rests counts kept went
+  waited_vain a l m (Ok o) e is x keeps rests bounds counts kept went = absurd (cc is)
+  waited_vain a l m (Err d) e is x keeps rests bounds counts kept went = waited_more a l m x keeps rests bounds counts kept went

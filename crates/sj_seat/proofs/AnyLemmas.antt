@@ -1,22 +1,25 @@
 -- A take from the first of several ends, after a guest waited.
-use Rattle.std.proofs.Common.{◌≡◌, ◌∙◌, length, List, ◌∷◌, Option, Some, None, Result, Ok, Err, IfOk, IfErr, OnOk, refl, ap, sym, subst, inl, inr}
+use Rattle.std.proofs.Common.{◌≡◌, ◌∙◌, length, List, ◌∷◌, Option, Some, None, Result, Ok, Err, IfOk, IfErr, OnErr, OnOk, sym, subst, inl}
 use Rattle.std.specs.Prelude.{IfSome}
 use Rattle.sj_base.specs.declared.EndId.{EndId}
 use Rattle.sj_base.specs.declared.Msg.{Msg}
 use Rattle.sj_lang.specs.FileAt.{FileAt}
+use Rattle.sj_node.specs.Node.{Stays}
 use Rattle.sj_node.specs.Reading.{parties_of}
 use Rattle.sj_seat_laws.specs.Calls.{Call, takes}
+use Rattle.sj_work.specs.declared.worker.Stop.{Stop}
 use Rattle.sj_work.specs.declared.worker.Worker.{Worker}
 use Rattle.sj_work.proofs.LaneLaws.{LaneLaws}
 use Rattle.sj_seat.specs.Logged.{TellsTaken, TookLast}
-use Rattle.sj_seat.specs.Ready.{IsAnyRefused, IsCutShort, IsNoneTaken, TookFirst, any_rule, first_rule_of, first_there}
+use Rattle.sj_seat.specs.Ready.{IsAnyRefused, IsCutShort, IsNoneTaken, IsUntaken, TookFirst, any_rule, first_rule_of, first_there}
 use Rattle.sj_seat.specs.Rules.{first_refusal, take_tests}
 use Rattle.sj_seat.specs.Views.{calls_of, ends_of, node_of, worker_of}
-use Rattle.sj_seat.specs.Went.{Went}
+use Rattle.sj_seat.specs.Went.{IsStopped, Went}
 use Rattle.sj_seat.specs.declared.guest.Guest.{Guest}
 use Rattle.sj_seat.specs.declared.refusal.SeatRefusal.{SeatRefusal}
+use Rattle.sj_seat.specs.declared.refusal.SeatRefusal.TheVariants as refusals
 use Rattle.sj_seat.proofs.AfterLemmas.{Waited, waited_then}
-use Rattle.sj_seat.proofs.PickLemmas.{allowed_there}
+use Rattle.sj_seat.proofs.PickLemmas.{allowed_there, first_stays}
 
 -- what was taken on an end is the call's, by its name
 pub tells_took : {O I : Type 0} (w : Worker O I) (c : Call) (e : EndId) (m : Msg) → c ≡ takes e → TellsTaken w c (Some m) → TookLast w e m
@@ -39,9 +42,18 @@ module _ {O I G : Type 0} where
   none_refused o (Ok p) es old new is why = tt
   none_refused o (Err h) es old new is why = subst (λ (x : Option SeatRefusal). IsAnyRefused x h es old new) (sym is) why
 
-  pub cut_off : (r : Answer) (es : List EndId) (g : Guest O I G) → IfErr r (λ h. IsCutShort h g) → IfErr r (λ h. IsNoneTaken h es g)
-  cut_off (Ok p) es g why = tt
-  cut_off (Err h) es g why = inr why
+  -- what is first there stays so
+  pub cut_off : (r : Answer) (es : List EndId) (e : EndId) (w g : Guest O I G) → first_there (node_of w) es ≡ Some e → OnErr r (Stays (node_of w) (node_of g)) → IfErr r (λ h. IsCutShort h e g) → IfErr r (λ h. IsNoneTaken h es g)
+  cut_off (Ok p) es e w g there stays why = tt
+  cut_off (Err h) es e w g there stays why = subst (λ (o : Option EndId). IsUntaken o h g) (sym (first_stays (node_of w) (node_of g) stays es ∙ there)) why
+
+  -- the worker stopped, whatever is there
+  pub stopped_there : (s : Stop) (o : Option EndId) (g : Guest O I G) → IsStopped s g → IsUntaken o (refusals.Stopped s) g
+  stopped_there s None g why = why
+  stopped_there s (Some e) g why = inl why
+
+  pub none_there : (o : Option EndId) (g : Guest O I G) → o ≡ None → IsUntaken o refusals.Waiting g
+  none_there o g none = subst (λ (x : Option EndId). IsUntaken x refusals.Waiting g) (sym none) tt
 
   pub took_named : (r : Answer) (e : EndId) (g : Guest O I G) → IfOk r (λ p. p.0 ≡ e) → IfOk r (λ p. TookLast (worker_of g) e p.1) → IfOk r (λ p. TookLast (worker_of g) p.0 p.1)
   took_named (Err h) e g same took = tt

@@ -15,5 +15,6 @@ mod PickLemmas
 mod RoundLemmas
 mod RuleLemmas
 pub mod SessionLemmas
+mod StopLemmas
 mod TakenLemmas
 mod WaitLemmas

@@ -1,18 +1,23 @@
 -- A take of a message that is there: what keeps the node from it, and on which end it is.
 use Rattle.std.proofs.Common.{◌≡◌, ◌∙◌, ℕ, Bool, true, false, if◌then◌else◌, List, [], ◌∷◌, Option, Some, None, option_map, refl, ap, sym, inl, inr}
-use Rattle.std.specs.Prelude.{is_some}
+use Rattle.std.specs.Prelude.{is_some, slice_get}
 use Rattle.sj_base.specs.declared.EndId.{EndId}
 use Rattle.sj_base.specs.declared.Msg.{Msg}
 use Rattle.sj_lang.specs.Place.{Place}
-use Rattle.sj_node.specs.Node.{Stays, next_head, node_at}
+use Rattle.sj_node.specs.Node.{Stays, main_of, next_head, node_at}
 use Rattle.sj_node.specs.Seats.{IsHead, halt_named}
+use Rattle.sj_node.specs.Taking.{held_head}
 use Rattle.sj_node.specs.declared.node.Node.{Node}
 use Rattle.sj_node.specs.declared.refusal.Halt.TheVariants as halts
 use Rattle.sj_node.proofs.SeatLemmas.{head_there}
 use Rattle.sj_rules.specs.Halts.{awaits, halt_if, is_empty, is_expected, lacks_message, no_message}
+use Rattle.sj_rules.specs.Mapped.{main_with}
 use Rattle.sj_rules.specs.Node as wanted
+use Rattle.sj_rules.specs.Record.{Closed, Expected, Held, MainAt}
 use Rattle.sj_seat_laws.specs.Calls.{Ends, takes}
 use Rattle.sj_seat_laws.specs.Guards.{carried_next, may_take, want_of_call, want_of_take, where_allowed}
+use Rattle.sj_table.specs.declared.table.Spot.{Spot}
+use Rattle.sj_table.specs.Spots.{place_in}
 use Rattle.sj_seat.specs.Ready.{IsCutShort, first_rule_of, first_there, rule_or}
 use Rattle.sj_seat.specs.Rules.{first_refusal, take_tests}
 use Rattle.sj_seat.specs.Views.{ends_of, may_of, node_of}
@@ -46,6 +51,24 @@ allowed_there n calls bs (x ∷ xs) e none h =
         → first_refusal (take_tests calls bs e) ≡ None
     by true so own later = let same : x ≡ e = cc so in ap (λ y. first_refusal (take_tests calls bs y)) (sym same) ∙ own
     by false so own later = later so
+
+-- what is next on each end stays where the node stays
+abbrev head_at : Option (MainAt Place) → Option Msg
+head_at (Some (Held h)) = slice_get h.untaken 0
+head_at _ = None
+
+head_seen : (f : Spot → Place) (r : Option (MainAt Spot)) → head_at (option_map (main_with f) r) ≡ held_head r
+head_seen f None = refl
+head_seen f (Some (Held h)) = refl
+head_seen f (Some (Closed c)) = refl
+head_seen f (Some (Expected keeper place deferred)) = refl
+
+head_stays : (a b : Node) → Stays a b → (e : EndId) → next_head b e ≡ next_head a e
+head_stays a b x e = sym (head_seen (place_in b.table) (main_of b e)) ∙ ap (λ n. head_at (n.main e)) x.node ∙ head_seen (place_in a.table) (main_of a e)
+
+pub first_stays : (a b : Node) → Stays a b → (es : List EndId) → first_there b es ≡ first_there a es
+first_stays a b x [] = refl
+first_stays a b x (e ∷ es) = λ i. if is_some (head_stays a b x e i) then Some e else first_stays a b x es i
 
 -- ---- what keeps a node from a take
 
@@ -93,11 +116,11 @@ head_at_end a b e (Some m) is some stays =
 
 -- why a take of what is there isn't done
 pub cut_short : {O I G : Type 0} (g : Guest O I G) (e : EndId) (o : Option Place) (r : SeatRefusal) → ((m : Msg) × IsHead (node_of g) e m) → want_of_call (may_of g) (ends_of g) (takes e) ≡ want_of_take e o
-    → IsHeldUp r (takes e) g → IsCutShort r g
+    → IsHeldUp r (takes e) g → IsCutShort r e g
 cut_short g e o refusals.Waiting head want h = head_not_waiting (node_of g) e head.0 head.1 o (ap (held_up (node_of g)) (sym want) ∙ h)
 cut_short g e o refusals.AtLimit head want h = take_not_worn (node_of g) e o (ap (held_up (node_of g)) (sym want) ∙ h)
 cut_short g e o (refusals.Stopped stop) head want (inl h) = inl h
-cut_short g e o (refusals.Stopped stop) head want (inr h) = inr (h.0, (e, h.1))
+cut_short g e o (refusals.Stopped stop) head want (inr h) = inr h
 cut_short g e o refusals.NoMemory head want h = tt
 cut_short g e o refusals.NotHeld head want h = h
 cut_short g e o refusals.BeginsOtherwise head want h = h

@@ -1,5 +1,5 @@
 -- A session that a node opens for code of its party, or refuses to, as the laws see it.
-use Rattle.std.proofs.Common.{◌≡◌, ◌∙◌, ℕ, ◌+◌, ◌<◌, ◌==◌, ◌&&◌, nat_lt, not, Bool, true, false, if◌then◌else◌, length, List, [], ◌∷◌, ◌++◌, Option, Some, None, option_map, Result, Ok, Err, IfErr, IfOk, OnOk, OnErr, refl, ap, sym}
+use Rattle.std.proofs.Common.{◌≡◌, ◌∙◌, ℕ, ◌+◌, ◌<◌, ◌==◌, ◌&&◌, nat_lt, not, Bool, true, false, if◌then◌else◌, length, List, [], ◌∷◌, Option, Some, None, option_map, Result, Ok, Err, IfErr, IfOk, OnOk, OnErr, refl, ap, sym}
 use Rattle.std.specs.Prelude.{IfSome, IsErrOf, is_none}
 use Rattle.sj_base.specs.declared.EndId.{EndId}
 use Rattle.sj_end.specs.Lines.{note_seen}
@@ -19,10 +19,10 @@ use Rattle.sj_node.proofs.SeatLemmas.{row_done}
 use Rattle.sj_rules.specs.Halts.{halt_if, is_empty, no_offer, requested_enough}
 use Rattle.sj_rules.specs.Limits.{limit_of_requests, limit_of_steps}
 use Rattle.sj_rules.specs.Log as logs
-use Rattle.sj_rules.specs.Log.{NoteAt, act_note}
+use Rattle.sj_rules.specs.Log.{act_note}
 use Rattle.sj_rules.specs.Node as wanted
 use Rattle.sj_rules.specs.Node.{NodeAt, Want, act_by}
-use Rattle.sj_rules.specs.Opened.{opened_number, smallest}
+use Rattle.sj_rules.specs.Opened.{smallest}
 use Rattle.sj_rules.specs.Record.{offered_end, requested_end}
 use Rattle.sj_rules.specs.Rows.{Worked}
 use Rattle.sj_seat_laws.specs.Calls.{Ends, Openings, SeatedAt, place_opened}
@@ -32,13 +32,12 @@ use Rattle.sj_seat_laws.specs.SeatRows.{with_player, worked_player}
 use Rattle.sj_seat_laws.proofs.PlayedLemmas.{accepting_played, requesting_played}
 use Rattle.sj_semantics.specs.Program.{Program}
 use Rattle.sj_work.specs.declared.worker.Worker.{Worker}
-use Rattle.sj_work.specs.Laned.{laned}
 use Rattle.sj_work.proofs.LaneLaws.{LaneLaws}
 use Rattle.sj_table.specs.declared.table.Spot.{Spot}
 use Rattle.sj_table.specs.declared.table.Table.{Table}
 use Rattle.sj_table.specs.Spots.{place_in}
 use Rattle.sj_seat.specs.Asked.{want_opening}
-use Rattle.sj_seat.specs.Logged.{OpenedLast, last_act, opening_end, opening_note}
+use Rattle.sj_seat.specs.Logged.{OpenedLast, opening_end, opening_note}
 use Rattle.sj_seat.specs.NodeOpening.{Opens, note_opening}
 use Rattle.sj_seat.specs.Opened.{opened_at, spot_opened}
 use Rattle.sj_seat.specs.Went.{IsHaltOf, Keeps, SeatWork, held_up}

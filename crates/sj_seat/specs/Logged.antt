@@ -28,10 +28,10 @@ abbrev pub last_act : List EntryAt → Option NoteAt
 last_act [] = None
 last_act (e ∷ es) = later_of (last_act es) (note_if_act e.event e.note)
 
--- the end that an act takes, on which one
-abbrev pub end_taken : Option NoteAt → Option (EndId × EndId)
-end_taken (Some (Took c (msgs.Sess s d k))) = Some (c, record { sess = s; side = d })
-end_taken _ = None
+-- the end that a message names, if any
+abbrev pub end_named : Msg → Option EndId
+end_named (msgs.Sess s d k) = Some (record { sess = s; side = d })
+end_named _ = None
 
 -- what is noted where the session of that number is opened, and the end of it that its party gets
 abbrev pub opening_note : OpenWish → (sess : ℕ) → NoteAt
@@ -47,9 +47,11 @@ module _ {O I : Type 0} where
   abbrev pub TookLast : Worker O I → EndId → Msg → Type 0
   TookLast w e m = last_act (laned w).log ≡ Some (Took e m)
 
-  -- the last act at the worker took that end on the carrier
-  abbrev pub TookEnd : Worker O I → (carrier e : EndId) → Type 0
-  TookEnd w c e = end_taken (last_act (laned w).log) ≡ Some (c, e)
+  -- the last act at the worker took a message on the carrier, and that is the end that it names, if any
+  pub record TookEnd (w : Worker O I) (carrier : EndId) (e : Option EndId) : Type 0 where
+    pub msg : Msg
+    pub took : TookLast w carrier msg
+    pub end : e ≡ end_named msg
 
   -- what a call took is the message of the last act, on the end of the call
   abbrev pub TellsTaken : Worker O I → Call → Option Msg → Type 0

@@ -52,22 +52,30 @@ module _ {O I G : Type 0} where
   abbrev pub any_rule : Guest O I G → List EndId → Option SeatRefusal
   any_rule g es = first_rule_of (calls_of g) (ends_of g) es
 
-  -- what is there can't be taken: the worker stopped for good, or the rules have no row for the take
-  abbrev pub IsCutShort : SeatRefusal → Guest O I G → Type 0
-  IsCutShort (refusals.Stopped stop) g =
-      IsStopped stop g ⊎ ((stop ≡ stops.Unfit) × ((e : EndId) × HasNoRow (node_of g) (want_of_call (may_of g) (ends_of g) (takes e)) (takes e)))
-  IsCutShort refusals.NoMemory g = ⊤
-  IsCutShort refusals.NotHeld g = ⊥
-  IsCutShort refusals.BeginsOtherwise g = ⊥
-  IsCutShort refusals.WrongEnd g = ⊥
-  IsCutShort refusals.WrongKind g = ⊥
-  IsCutShort refusals.NotOpened g = ⊥
-  IsCutShort refusals.AtLimit g = ⊥
-  IsCutShort refusals.Waiting g = ⊥
+  -- what is there on the end can't be taken: the worker stopped for good, or the rules have no row for that take
+  abbrev pub IsCutShort : SeatRefusal → EndId → Guest O I G → Type 0
+  IsCutShort (refusals.Stopped stop) e g =
+      IsStopped stop g ⊎ ((stop ≡ stops.Unfit) × HasNoRow (node_of g) (want_of_call (may_of g) (ends_of g) (takes e)) (takes e))
+  IsCutShort refusals.NoMemory e g = ⊤
+  IsCutShort refusals.NotHeld e g = ⊥
+  IsCutShort refusals.BeginsOtherwise e g = ⊥
+  IsCutShort refusals.WrongEnd e g = ⊥
+  IsCutShort refusals.WrongKind e g = ⊥
+  IsCutShort refusals.NotOpened e g = ⊥
+  IsCutShort refusals.AtLimit e g = ⊥
+  IsCutShort refusals.Waiting e g = ⊥
 
-  -- why nothing is taken that no rule refuses: no end has a message, or what is there can't be taken
+  -- why nothing is taken, by the first end on which a message is there: what is there can't be taken. Where
+  -- none is there the take waits, or the worker stopped for good
+  abbrev pub IsUntaken : Option EndId → SeatRefusal → Guest O I G → Type 0
+  IsUntaken (Some e) r g = IsCutShort r e g
+  IsUntaken None refusals.Waiting g = ⊤
+  IsUntaken None (refusals.Stopped stop) g = IsStopped stop g
+  IsUntaken None _ g = ⊥
+
+  -- why nothing is taken that no rule refuses
   abbrev pub IsNoneTaken : SeatRefusal → List EndId → Guest O I G → Type 0
-  IsNoneTaken r es g = ((r ≡ refusals.Waiting) × (first_there (node_of g) es ≡ None)) ⊎ IsCutShort r g
+  IsNoneTaken r es g = IsUntaken (first_there (node_of g) es) r g
 
   -- the first rule that applies refuses it, and then nothing happens; where none does, nothing is taken
   abbrev pub IsAnyRefused : Option SeatRefusal → SeatRefusal → List EndId → (old new : Guest O I G) → Type 0

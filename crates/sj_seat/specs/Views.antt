@@ -53,6 +53,10 @@ module _ {O I G : Type 0} where
   abbrev pub texts_of : Guest O I G → ℕ
   texts_of g = g.texts
 
+  -- how many rounds in vain a call waits
+  abbrev pub looks_of : Guest O I G → ℕ
+  looks_of g = g.looks
+
   abbrev pub table_of : Guest O I G → Table
   table_of g = g.table
 

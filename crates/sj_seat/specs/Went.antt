@@ -25,11 +25,12 @@ use Rattle.sj_seat_laws.specs.SeatedPlay.{seated_play}
 use Rattle.sj_work.specs.Causes.{Loses}
 use Rattle.sj_work.specs.Views as works
 use Rattle.sj_work.specs.Views.{stop_of}
+use Rattle.sj_work.specs.Worked.{kept_stop}
 use Rattle.sj_work.specs.declared.worker.Stop.{Stop}
 use Rattle.sj_work.specs.declared.worker.Stop.TheVariants as stops
 use Rattle.sj_work.specs.declared.worker.Worker.{Worker}
 use Rattle.sj_seat.specs.Rules.{first_refusal}
-use Rattle.sj_seat.specs.Views.{calls_of, ends_of, laned_at, may_of, node_of, seat_of, texts_of, worker_of}
+use Rattle.sj_seat.specs.Views.{calls_of, ends_of, laned_at, looks_of, may_of, node_of, seat_of, texts_of, worker_of}
 use Rattle.sj_seat.specs.Wishes.{open_tests_of, tests_of}
 use Rattle.sj_seat.specs.declared.wish.OpenWish.{OpenWish}
 use Rattle.sj_seat.specs.declared.wish.Wish.{Wish}
@@ -56,6 +57,16 @@ pub record Keeps (old new : Node) : Type 0 where
   pub connects : connect_count new ≡ connect_count old
   pub table : nodes.table_of new ≡ nodes.table_of old
   pub clock : clock_of old ≤ clock_of new
+
+-- the stop, where nothing more is done after it
+abbrev pub lasting : Stop → Option Stop
+lasting stops.ClockEnd = Some stops.ClockEnd
+lasting stops.NoMemory = Some stops.NoMemory
+lasting stops.Fault = Some stops.Fault
+lasting stops.Unfit = Some stops.Unfit
+lasting stops.Finished = None
+lasting stops.Idle = None
+lasting stops.AtLimit = None
 
 -- what keeps the node from the step now, as the rules say
 abbrev pub held_up : Node → Want Place → Option Halt
@@ -92,7 +103,7 @@ module _ {O I G : Type 0} where
 
   -- the worker stopped for good: with that stop, or its clock can't rise any more
   abbrev pub IsStopped : Stop → Guest O I G → Type 0
-  IsStopped stop g = (stop_of (worker_of g) ≡ Some stop) ⊎ ((stop ≡ stops.ClockEnd) × (clock_end ≤ clock_of (node_of g)))
+  IsStopped stop g = (kept_stop (stop_of (worker_of g)) ≡ Some stop) ⊎ ((stop ≡ stops.ClockEnd) × (clock_end ≤ clock_of (node_of g)))
 
   -- why the node didn't do the call
   abbrev pub IsHalt : Halt → Call → Guest O I G → Type 0
@@ -124,3 +135,8 @@ module _ {O I G : Type 0} where
     pub ends : ends_of new ≡ ends_of old
     pub calls : calls_of new ≡ calls_of old
     pub may : may_of new ≡ may_of old
+
+  -- the code may name as many texts, and a call waits as many rounds
+  pub record SameBounds (old new : Guest O I G) : Type 0 where
+    pub texts : texts_of new ≡ texts_of old
+    pub looks : looks_of new ≡ looks_of old

@@ -5,7 +5,7 @@ ghost use Rattle.sj_node.specs.Reading.{parties_of};
 ghost use Rattle.sj_seat.specs.Asking.{Holds, IsAskRefused, IsFirst, Tells, calls_made, first_ask_rule, outcome_of};
 ghost use Rattle.sj_seat.specs.Counted.{Counted};
 ghost use Rattle.sj_seat.specs.Views.{node_of, worker_of};
-ghost use Rattle.sj_seat.specs.Went.{Keeps, Rests, Went};
+ghost use Rattle.sj_seat.specs.Went.{Keeps, Rests, SameBounds, Went};
 ghost use Rattle.sj_seat_laws.specs.Calls as calls;
 
 use crate::{Guest, OpenWish, SeatRefusal, Wish};
@@ -66,6 +66,7 @@ impl<O: OutLane, I: InLane, G: Gate> Guest<'_, O, I, G> {
             (Went O.OutLane I.InLane file rest rest self.old self.new) }
         ensures rests { OnErr result (Rests self.old self.new) }
         ensures keeps { Keeps (node_of self.old) (node_of self.new) }
+        ensures bounds { SameBounds self.old self.new }
         ensures counts { Counted O.OutLane I.InLane (worker_of self.old) (worker_of self.new) }
 
         // What it answers is what the last act did, or whether a message is there. An end that was

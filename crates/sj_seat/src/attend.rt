@@ -4,13 +4,13 @@ ghost use Rattle.sj_lang.specs.FileAt.{FileAt};
 ghost use Rattle.sj_node.specs.Reading.{parties_of};
 ghost use Rattle.sj_seat.specs.Counted.{Counted};
 ghost use Rattle.sj_seat.specs.Views.{node_of, worker_of};
-ghost use Rattle.sj_seat.specs.Went.{Keeps, Rests, Went};
+ghost use Rattle.sj_seat.specs.Went.{IsStopped, Keeps, Rests, SameBounds, Went};
 ghost use Rattle.sj_seat_laws.specs.Calls as calls;
 ghost use Rattle.sj_work.specs.Views.{stop_of};
 ghost use Rattle.sj_work.specs.Worked.{kept_stop};
 
 use crate::Guest;
-use crate::deeds::deliver_all;
+use crate::deeds::{deliver_all, for_good};
 use sj_lane::{InLane, OutLane};
 use sj_work::{Gate, Stop, Worker};
 
@@ -35,15 +35,14 @@ impl<O: OutLane, I: InLane, G: Gate> Guest<'_, O, I, G> {
 
         // What stays, and what the lanes counted.
         ensures keeps { Keeps (node_of self.old) (node_of self.new) }
+        ensures bounds { SameBounds self.old self.new }
         ensures counts { Counted O.OutLane I.InLane (worker_of self.old) (worker_of self.new) }
 
-        // The stop.
+        // The stop, which has its cause.
         ensures none { result ≡ None → kept_stop (stop_of (worker_of self.new)) ≡ None }
         ensures some { IfSome result (λ s. stop_of (worker_of self.new) ≡ Some s) }
+        ensures cause { IfSome result (λ s. IsStopped s self.new) }
     {
-        match deliver_all(&mut self.worker, looks, self.gate) {
-            Stop::Finished | Stop::Idle | Stop::AtLimit => None,
-            stop => Some(stop),
-        }
+        for_good(deliver_all(&mut self.worker, looks, self.gate))
     }
 }

@@ -1,13 +1,13 @@
 //! The calls that a builder's code makes.
-ghost use Rattle.std.specs.Prelude.{◌≡◌, ◌∷◌, IfErr, IfOk, IfSome, List, None, OnErr, OnOk, true, false, is_some, length, option_map};
+ghost use Rattle.std.specs.Prelude.{◌≡◌, ◌∷◌, IfErr, IfOk, List, None, OnErr, OnOk, true, false, is_some, length, option_map};
 ghost use Rattle.sj_base.specs.declared.Msg.TheVariants as msgs;
 ghost use Rattle.sj_lang.specs.FileAt.{FileAt};
 ghost use Rattle.sj_node.specs.Reading.{parties_of};
 ghost use Rattle.sj_seat.specs.Counted.{Counted};
-ghost use Rattle.sj_seat.specs.Logged.{TellsTaken, TookEnd, TookLast};
+ghost use Rattle.sj_seat.specs.Logged.{TellsTaken, TookEnd, TookLast, end_named};
 ghost use Rattle.sj_seat.specs.Opened.{openings_at};
 ghost use Rattle.sj_seat.specs.Views.{calls_of, ends_of, held_by, may_of, node_of, table_of, texts_of, worker_of};
-ghost use Rattle.sj_seat.specs.Went.{IsRefused, Keeps, Rests, Went, first_rule};
+ghost use Rattle.sj_seat.specs.Went.{IsRefused, Keeps, Rests, SameBounds, Went, first_rule};
 ghost use Rattle.sj_seat.specs.Wishes.{is_taking, wished};
 ghost use Rattle.sj_seat_laws.specs.Calls as calls;
 ghost use Rattle.sj_seat_laws.specs.Calls.{place_held};
@@ -66,6 +66,7 @@ impl<O: OutLane, I: InLane, G: Gate> Guest<'_, O, I, G> {
             (Went O.OutLane I.InLane file rest rest self.old self.new) }
         ensures rests { OnErr result (Rests self.old self.new) }
         ensures keeps { Keeps (node_of self.old) (node_of self.new) }
+        ensures bounds { SameBounds self.old self.new }
         ensures counts { Counted O.OutLane I.InLane (worker_of self.old) (worker_of self.new) }
         ensures takes { IfOk result (λ m. is_some m ≡ is_taking wish) }
         ensures tells { IfOk result (TellsTaken (worker_of self.new) (wished wish)) }
@@ -91,6 +92,7 @@ impl<O: OutLane, I: InLane, G: Gate> Guest<'_, O, I, G> {
             (Went O.OutLane I.InLane file rest rest self.old self.new) }
         ensures rests { OnErr result (Rests self.old self.new) }
         ensures keeps { Keeps (node_of self.old) (node_of self.new) }
+        ensures bounds { SameBounds self.old self.new }
         ensures allowed { OnOk result (first_rule self.old (Wish.Send end msg) ≡ None) }
         ensures cause { IfErr result (λ r. IsRefused (first_rule self.old (Wish.Send end msg)) r
             (calls.sends end msg) self.old self.new) }
@@ -111,6 +113,7 @@ impl<O: OutLane, I: InLane, G: Gate> Guest<'_, O, I, G> {
             (Went O.OutLane I.InLane file rest rest self.old self.new) }
         ensures rests { OnErr result (Rests self.old self.new) }
         ensures keeps { Keeps (node_of self.old) (node_of self.new) }
+        ensures bounds { SameBounds self.old self.new }
         ensures allowed { OnOk result (first_rule self.old (Wish.Send end (msgs.Label label)) ≡ None) }
         ensures cause { IfErr result (λ r. IsRefused (first_rule self.old (Wish.Send end (msgs.Label label))) r
             (calls.sends end (msgs.Label label)) self.old self.new) }
@@ -134,6 +137,7 @@ impl<O: OutLane, I: InLane, G: Gate> Guest<'_, O, I, G> {
             (Went O.OutLane I.InLane file rest rest self.old self.new) }
         ensures rests { OnErr result (Rests self.old self.new) }
         ensures keeps { Keeps (node_of self.old) (node_of self.new) }
+        ensures bounds { SameBounds self.old self.new }
         ensures allowed { OnOk result (first_rule self.old (Wish.Send end (msgs.More true)) ≡ None) }
         ensures cause { IfErr result (λ r. IsRefused (first_rule self.old (Wish.Send end (msgs.More true))) r
             (calls.sends end (msgs.More true)) self.old self.new) }
@@ -157,6 +161,7 @@ impl<O: OutLane, I: InLane, G: Gate> Guest<'_, O, I, G> {
             (Went O.OutLane I.InLane file rest rest self.old self.new) }
         ensures rests { OnErr result (Rests self.old self.new) }
         ensures keeps { Keeps (node_of self.old) (node_of self.new) }
+        ensures bounds { SameBounds self.old self.new }
         ensures allowed { OnOk result (first_rule self.old (Wish.Send end (msgs.More false)) ≡ None) }
         ensures cause { IfErr result (λ r. IsRefused (first_rule self.old (Wish.Send end (msgs.More false))) r
             (calls.sends end (msgs.More false)) self.old self.new) }
@@ -180,6 +185,7 @@ impl<O: OutLane, I: InLane, G: Gate> Guest<'_, O, I, G> {
             (Went O.OutLane I.InLane file rest rest self.old self.new) }
         ensures rests { OnErr result (Rests self.old self.new) }
         ensures keeps { Keeps (node_of self.old) (node_of self.new) }
+        ensures bounds { SameBounds self.old self.new }
         ensures allowed { OnOk result (first_rule self.old (Wish.Delegate carrier end) ≡ None) }
         ensures cause { IfErr result (λ r. IsRefused (first_rule self.old (Wish.Delegate carrier end)) r
             (calls.delegates carrier end) self.old self.new) }
@@ -200,6 +206,7 @@ impl<O: OutLane, I: InLane, G: Gate> Guest<'_, O, I, G> {
             (Went O.OutLane I.InLane file rest rest self.old self.new) }
         ensures rests { OnErr result (Rests self.old self.new) }
         ensures keeps { Keeps (node_of self.old) (node_of self.new) }
+        ensures bounds { SameBounds self.old self.new }
         ensures allowed { OnOk result (first_rule self.old (Wish.Close end) ≡ None) }
         ensures cause { IfErr result (λ r. IsRefused (first_rule self.old (Wish.Close end)) r
             (calls.closes end) self.old self.new) }
@@ -221,6 +228,7 @@ impl<O: OutLane, I: InLane, G: Gate> Guest<'_, O, I, G> {
         ensures took { IfOk result (TookLast (worker_of self.new) end) }
         ensures rests { OnErr result (Rests self.old self.new) }
         ensures keeps { Keeps (node_of self.old) (node_of self.new) }
+        ensures bounds { SameBounds self.old self.new }
         ensures allowed { OnOk result (first_rule self.old (Wish.Take end) ≡ None) }
         ensures cause { IfErr result (λ r. IsRefused (first_rule self.old (Wish.Take end)) r
             (calls.takes end) self.old self.new) }
@@ -241,17 +249,28 @@ impl<O: OutLane, I: InLane, G: Gate> Guest<'_, O, I, G> {
         ensures err { (file : FileAt) (rest : List calls.Call) →
             length file.parties ≡ parties_of (node_of self.old) → OnErr result
             (Went O.OutLane I.InLane file rest rest self.old self.new) }
-        ensures took { IfOk result (λ o. IfSome o (TookEnd (worker_of self.new) end)) }
+        ensures took { IfOk result (TookEnd (worker_of self.new) end) }
         ensures rests { OnErr result (Rests self.old self.new) }
         ensures keeps { Keeps (node_of self.old) (node_of self.new) }
+        ensures bounds { SameBounds self.old self.new }
         ensures allowed { OnOk result (first_rule self.old (Wish.TakeEnd end) ≡ None) }
         ensures cause { IfErr result (λ r. IsRefused (first_rule self.old (Wish.TakeEnd end)) r
             (calls.takes end) self.old self.new) }
     {
         match self.perform(Wish::TakeEnd { end }) {
-            Ok(Some(Msg::Sess { sess, side, .. })) => Ok(Some(EndId { sess, side })),
-            Ok(_) => Ok(None),
+            Ok(Some(msg)) => Ok(end_named(msg)),
+            Ok(None) => unreachable!(),
             Err(refusal) => Err(refusal),
         }
+    }
+}
+
+/// The end that the message names, if any.
+fn end_named(msg: Msg) -> Option<EndId>
+    ensures { result ≡ end_named msg }
+{
+    match msg {
+        Msg::Sess { sess, side, .. } => Some(EndId { sess, side }),
+        _ => None,
     }
 }

@@ -1,5 +1,5 @@
 //! What a worker does whose party is played by code: deliveries, and a call.
-ghost use Rattle.std.specs.Prelude.{◌≡◌, ◌<◌, IfOk, IfErr, IsErrOf, IsTrue, None, OnErr, OnOk, Some, is_some, length};
+ghost use Rattle.std.specs.Prelude.{◌≡◌, ◌<◌, ◌≤◌, IfOk, IfErr, IsErrOf, IsTrue, None, OnErr, OnOk, Some, is_some, length};
 ghost use Rattle.sj_lang.specs.FileAt.{FileAt};
 ghost use Rattle.sj_node.specs.Calls.{place_here};
 ghost use Rattle.sj_node.specs.Node.{Stays, clock_of, wants_of};
@@ -10,7 +10,7 @@ ghost use Rattle.sj_rules.specs.Limits.{clock_end, limit_of_steps};
 ghost use Rattle.sj_seat.specs.Asked.{asked, want_opening};
 ghost use Rattle.sj_seat.specs.Counted.{Counted};
 ghost use Rattle.sj_seat.specs.Logged.{OpenedLast, TellsTaken, last_act};
-ghost use Rattle.sj_seat.specs.Went.{HasNoRow, IsHaltOf, Keeps, SeatWork, held_up};
+ghost use Rattle.sj_seat.specs.Went.{HasNoRow, IsHaltOf, Keeps, SeatWork, held_up, lasting};
 ghost use Rattle.sj_seat_laws.specs.Calls.{SeatedAt};
 ghost use Rattle.sj_seat_laws.specs.Guards.{called, opened, seated_want};
 ghost use Rattle.sj_semantics.specs.declared.Want.TheVariants as wants;
@@ -37,6 +37,7 @@ pub(crate) fn deliver<O: OutLane, I: InLane, G: Gate>(worker: &mut Worker<O, I>,
     ensures acts { last_act (laned worker.new).log ≡ last_act (laned worker.old).log }
     ensures counts { Counted O.OutLane I.InLane worker.old worker.new }
     ensures stop { stop_of worker.new ≡ Some result }
+    ensures ended { result ≡ Stop.ClockEnd → clock_end ≤ clock_of (node_of worker.new) }
 {
     attend(worker, gate)
 }
@@ -53,6 +54,16 @@ pub(crate) fn push<O: OutLane, I: InLane>(worker: &mut Worker<O, I>)
     ensures counts { Counted O.OutLane I.InLane worker.old worker.new }
 {
     let _ = push_out(worker);
+}
+
+/// The stop, where nothing more is done after it.
+pub(crate) fn for_good(stop: Stop) -> Option<Stop>
+    ensures { result ≡ lasting stop }
+{
+    match stop {
+        Stop::ClockEnd | Stop::NoMemory | Stop::Fault | Stop::Unfit => Some(stop),
+        Stop::Finished | Stop::Idle | Stop::AtLimit => None,
+    }
 }
 
 // Whether nothing keeps the party from another round.
@@ -73,6 +84,7 @@ fn rounds<O: OutLane, I: InLane, G: Gate>(worker: &mut Worker<O, I>, looks: u32,
     ensures acts { last_act (laned worker.new).log ≡ last_act (laned worker.old).log }
     ensures counts { Counted O.OutLane I.InLane worker.old worker.new }
     ensures stop { stop_of worker.new ≡ Some result }
+    ensures ended { result ≡ Stop.ClockEnd → clock_end ≤ clock_of (node_of worker.new) }
 {
     let before = worker.node().clock();
     for _ in 1..looks {
@@ -103,6 +115,7 @@ pub(crate) fn deliver_all<O: OutLane, I: InLane, G: Gate>(
     ensures acts { last_act (laned worker.new).log ≡ last_act (laned worker.old).log }
     ensures counts { Counted O.OutLane I.InLane worker.old worker.new }
     ensures stop { stop_of worker.new ≡ Some result }
+    ensures ended { result ≡ Stop.ClockEnd → clock_end ≤ clock_of (node_of worker.new) }
 {
     while worker.node().clock() < CLOCK_END {
         let before = worker.node().clock();

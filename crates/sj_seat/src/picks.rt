@@ -1,14 +1,14 @@
 //! Ends on which a message is there, and a take from the first of several.
 ghost use Rattle.std.specs.Prelude.{◌≡◌, ◌∷◌, IfErr, IfOk, IfSome, List, None, OnErr, OnOk, Some, is_some, length, true};
 ghost use Rattle.sj_lang.specs.FileAt.{FileAt};
-ghost use Rattle.sj_node.specs.Node.{next_head};
+ghost use Rattle.sj_node.specs.Node.{Stays, next_head};
 ghost use Rattle.sj_node.specs.Reading.{parties_of};
 ghost use Rattle.sj_seat.specs.Counted.{Counted};
 ghost use Rattle.sj_seat.specs.Logged.{TookLast};
 ghost use Rattle.sj_seat.specs.Ready.{IsAnyRefused, IsCutShort, IsNoneTaken, IsReadyRefused, IsUnseen, TookFirst, any_rule, first_there, ready_rule};
 ghost use Rattle.sj_seat.specs.Rules.{first_refusal, take_tests};
 ghost use Rattle.sj_seat.specs.Views.{calls_of, ends_of, node_of, worker_of};
-ghost use Rattle.sj_seat.specs.Went.{Keeps, Rests, Went};
+ghost use Rattle.sj_seat.specs.Went.{Keeps, Rests, SameBounds, Went};
 ghost use Rattle.sj_seat_laws.specs.Calls as calls;
 
 use crate::{Guest, SeatRefusal};
@@ -28,6 +28,7 @@ impl<O: OutLane, I: InLane, G: Gate> Guest<'_, O, I, G> {
             Went O.OutLane I.InLane file rest rest self.old self.new }
         ensures rests { Rests self.old self.new }
         ensures keeps { Keeps (node_of self.old) (node_of self.new) }
+        ensures bounds { SameBounds self.old self.new }
         ensures counts { Counted O.OutLane I.InLane (worker_of self.old) (worker_of self.new) }
 
         // No rule refuses what is answered; what isn't has its cause.
@@ -49,6 +50,7 @@ impl<O: OutLane, I: InLane, G: Gate> Guest<'_, O, I, G> {
             Went O.OutLane I.InLane file rest rest self.old self.new }
         ensures rests { Rests self.old self.new }
         ensures keeps { Keeps (node_of self.old) (node_of self.new) }
+        ensures bounds { SameBounds self.old self.new }
         ensures counts { Counted O.OutLane I.InLane (worker_of self.old) (worker_of self.new) }
         ensures cause { IfErr result (λ r. IsUnseen r self.new) }
     {
@@ -73,6 +75,7 @@ impl<O: OutLane, I: InLane, G: Gate> Guest<'_, O, I, G> {
             (Went O.OutLane I.InLane file rest rest self.old self.new) }
         ensures rests { OnErr result (Rests self.old self.new) }
         ensures keeps { Keeps (node_of self.old) (node_of self.new) }
+        ensures bounds { SameBounds self.old self.new }
         ensures counts { Counted O.OutLane I.InLane (worker_of self.old) (worker_of self.new) }
 
         // It is from the first end on which a message is there, at once where one is there already.
@@ -107,6 +110,7 @@ impl<O: OutLane, I: InLane, G: Gate> Guest<'_, O, I, G> {
             (Went O.OutLane I.InLane file rest rest self.old self.new) }
         ensures rests { OnErr result (Rests self.old self.new) }
         ensures keeps { Keeps (node_of self.old) (node_of self.new) }
+        ensures bounds { SameBounds self.old self.new }
         ensures counts { Counted O.OutLane I.InLane (worker_of self.old) (worker_of self.new) }
         ensures took { IfOk result (λ r. TookLast (worker_of self.new) r.0 r.1) }
         ensures first { IfOk result (λ r.
@@ -136,10 +140,12 @@ impl<O: OutLane, I: InLane, G: Gate> Guest<'_, O, I, G> {
             (Went O.OutLane I.InLane file rest rest self.old self.new) }
         ensures rests { OnErr result (Rests self.old self.new) }
         ensures keeps { Keeps (node_of self.old) (node_of self.new) }
+        ensures bounds { SameBounds self.old self.new }
         ensures counts { Counted O.OutLane I.InLane (worker_of self.old) (worker_of self.new) }
         ensures end { IfOk result (λ r. r.0 ≡ end) }
         ensures took { IfOk result (λ r. TookLast (worker_of self.new) end r.1) }
-        ensures cause { IfErr result (λ r. IsCutShort r self.new) }
+        ensures cause { IfErr result (λ r. IsCutShort r end self.new) }
+        ensures stays { OnErr result (Stays (node_of self.old) (node_of self.new)) }
     {
         match self.guard().take(end) {
             Ok(call) => match self.attempt(call) {

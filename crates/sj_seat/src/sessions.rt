@@ -8,7 +8,7 @@ ghost use Rattle.sj_seat.specs.Asked.{IsOpenable};
 ghost use Rattle.sj_seat.specs.Counted.{Counted};
 ghost use Rattle.sj_seat.specs.Logged.{OpenedLast};
 ghost use Rattle.sj_seat.specs.Views.{calls_of, ends_of, may_of, node_of, table_of, worker_of};
-ghost use Rattle.sj_seat.specs.Went.{IsHalt, IsHeldUp, IsRefused, Keeps, Rests, Went, first_open_rule};
+ghost use Rattle.sj_seat.specs.Went.{IsHalt, IsHeldUp, IsRefused, Keeps, Rests, SameBounds, Went, first_open_rule};
 ghost use Rattle.sj_seat.specs.Wishes.{open_wished};
 ghost use Rattle.sj_seat_laws.specs.Calls as calls;
 ghost use Rattle.sj_seat_laws.specs.Calls.{place_opened};
@@ -41,6 +41,7 @@ impl<O: OutLane, I: InLane, G: Gate> Guest<'_, O, I, G> {
         ensures opened { IfOk result (OpenedLast (worker_of self.new) (OpenWish.Request party protocol)) }
         ensures rests { OnErr result (Rests self.old self.new) }
         ensures keeps { Keeps (node_of self.old) (node_of self.new) }
+        ensures bounds { SameBounds self.old self.new }
         ensures allowed { OnOk result (first_open_rule self.old (OpenWish.Request party protocol) ≡ None) }
         ensures cause { IfErr result (λ r. IsRefused
             (first_open_rule self.old (OpenWish.Request party protocol)) r
@@ -63,6 +64,7 @@ impl<O: OutLane, I: InLane, G: Gate> Guest<'_, O, I, G> {
         ensures opened { IfOk result (OpenedLast (worker_of self.new) (OpenWish.Accept party protocol)) }
         ensures rests { OnErr result (Rests self.old self.new) }
         ensures keeps { Keeps (node_of self.old) (node_of self.new) }
+        ensures bounds { SameBounds self.old self.new }
         ensures allowed { OnOk result (first_open_rule self.old (OpenWish.Accept party protocol) ≡ None) }
         ensures cause { IfErr result (λ r. IsRefused
             (first_open_rule self.old (OpenWish.Accept party protocol)) r
@@ -87,6 +89,7 @@ impl<O: OutLane, I: InLane, G: Gate> Guest<'_, O, I, G> {
         ensures opened { IfOk result (OpenedLast (worker_of self.new) wish) }
         ensures rests { OnErr result (Rests self.old self.new) }
         ensures keeps { Keeps (node_of self.old) (node_of self.new) }
+        ensures bounds { SameBounds self.old self.new }
         ensures counts { Counted O.OutLane I.InLane (worker_of self.old) (worker_of self.new) }
 
         // No rule refuses what is done; what isn't done has its cause.
@@ -115,6 +118,7 @@ impl<O: OutLane, I: InLane, G: Gate> Guest<'_, O, I, G> {
         ensures opened { IfOk result (OpenedLast (worker_of self.new) wish) }
         ensures rests { OnErr result (Rests self.old self.new) }
         ensures keeps { Keeps (node_of self.old) (node_of self.new) }
+        ensures bounds { SameBounds self.old self.new }
         ensures counts { Counted O.OutLane I.InLane (worker_of self.old) (worker_of self.new) }
         ensures cause { IfErr result (λ r. IsHeldUp r (open_wished wish) self.new) }
     {
@@ -145,6 +149,7 @@ impl<O: OutLane, I: InLane, G: Gate> Guest<'_, O, I, G> {
         ensures opened { IfOk result (OpenedLast (worker_of self.new) wish) }
         ensures rests { OnErr result (Rests self.old self.new) }
         ensures keeps { Keeps (node_of self.old) (node_of self.new) }
+        ensures bounds { SameBounds self.old self.new }
         ensures counts { Counted O.OutLane I.InLane (worker_of self.old) (worker_of self.new) }
         ensures cause { IfErr result (λ r. IsHeldUp r (open_wished wish) self.new) }
         ensures waits { result ≡ Err SeatRefusal.Waiting →
@@ -182,6 +187,7 @@ impl<O: OutLane, I: InLane, G: Gate> Guest<'_, O, I, G> {
         ensures opened { IfOk result (OpenedLast (worker_of self.new) wish) }
         ensures rests { OnErr result (Rests self.old self.new) }
         ensures keeps { Keeps (node_of self.old) (node_of self.new) }
+        ensures bounds { SameBounds self.old self.new }
         ensures counts { Counted O.OutLane I.InLane (worker_of self.old) (worker_of self.new) }
         ensures stop { stop_of (worker_of self.new) ≡ stop_of (worker_of self.old) }
         ensures cause { IfErr result (λ h. IsHalt h (open_wished wish) self.new) }

@@ -8,7 +8,7 @@ ghost use Rattle.sj_node.specs.Reading as nodes;
 ghost use Rattle.sj_node.specs.Starting.{BeginsWith, nothing_to_do};
 ghost use Rattle.sj_seat.specs.Opened.{openings_at};
 ghost use Rattle.sj_seat.specs.Places.{CarriesPlaces};
-ghost use Rattle.sj_seat.specs.Views.{calls_of, ends_of, held_by, may_of, node_of, table_of, texts_of, worker_of};
+ghost use Rattle.sj_seat.specs.Views.{calls_of, ends_of, held_by, looks_of, may_of, node_of, table_of, texts_of, worker_of};
 ghost use Rattle.sj_seat_laws.specs.SeatedStart.{connected_ends, openings_of};
 ghost use Rattle.sj_semantics.specs.declared.Want.TheVariants as wants;
 ghost use Rattle.sj_table.specs.Spots.{start_in};
@@ -46,6 +46,7 @@ impl<'a, O, I, G> Guest<'a, O, I, G> {
         ensures may { may_of result ≡ openings_at table may }
         ensures texts { texts_of result ≡ texts }
         ensures calls { calls_of result ≡ 0 }
+        ensures looks { looks_of result ≡ looks }
     {
         Guest {
             worker,
@@ -104,6 +105,7 @@ impl<'a, O, I, G> Guest<'a, O, I, G> {
         ensures lanes { IfOk result (λ g. works.lanes_of (worker_of g) ≡ lanes) }
         ensures stop { IfOk result (λ g. works.stop_of (worker_of g) ≡ None) }
         ensures texts { IfOk result (λ g. texts_of g ≡ texts) }
+        ensures looks { IfOk result (λ g. looks_of g ≡ looks) }
     {
         let file = accepted.file();
         let ends = first_ends(alloc, file, table, party)?;

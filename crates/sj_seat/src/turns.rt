@@ -10,13 +10,13 @@ ghost use Rattle.sj_seat.specs.Asked.{IsGuarded, asked};
 ghost use Rattle.sj_seat.specs.Counted.{Counted};
 ghost use Rattle.sj_seat.specs.Logged.{TellsTaken, last_act};
 ghost use Rattle.sj_seat.specs.Views.{calls_of, ends_of, may_of, node_of, table_of, worker_of};
-ghost use Rattle.sj_seat.specs.Went.{IsHalt, IsHeldUp, IsStopped, Keeps, Rests, Went};
+ghost use Rattle.sj_seat.specs.Went.{IsHalt, IsHeldUp, IsStopped, Keeps, Rests, SameBounds, Went};
 ghost use Rattle.sj_seat_laws.specs.Calls as calls;
 ghost use Rattle.sj_work.specs.Laned.{laned};
 ghost use Rattle.sj_work.specs.Views.{stop_of};
 ghost use Rattle.sj_work.specs.Worked.{kept_stop};
 
-use crate::deeds::{deliver, do_call, push};
+use crate::deeds::{deliver, do_call, for_good, push};
 use crate::ends::go_on;
 use crate::{Guest, SeatRefusal};
 use sj_base::Msg;
@@ -32,18 +32,15 @@ impl<O: OutLane, I: InLane, G: Gate> Guest<'_, O, I, G> {
             length file.parties ≡ parties_of (node_of self.old) →
             Went O.OutLane I.InLane file rest rest self.old self.new }
         ensures keeps { Keeps (node_of self.old) (node_of self.new) }
+        ensures bounds { SameBounds self.old self.new }
         ensures rests { Rests self.old self.new }
         ensures acts { last_act (laned (worker_of self.new)).log
             ≡ last_act (laned (worker_of self.old)).log }
         ensures counts { Counted O.OutLane I.InLane (worker_of self.old) (worker_of self.new) }
         ensures none { result ≡ None → kept_stop (stop_of (worker_of self.new)) ≡ None }
-        ensures some { IfSome result (λ s. stop_of (worker_of self.new) ≡ Some s) }
+        ensures some { IfSome result (λ s. IsStopped s self.new) }
     {
-        let stop = deliver(&mut self.worker, self.gate);
-        match stop {
-            Stop::ClockEnd | Stop::NoMemory | Stop::Fault | Stop::Unfit => Some(stop),
-            Stop::Finished | Stop::Idle | Stop::AtLimit => None,
-        }
+        for_good(deliver(&mut self.worker, self.gate))
     }
 
     /// Pushes what waits after a call that posted something; else nothing.
@@ -52,6 +49,7 @@ impl<O: OutLane, I: InLane, G: Gate> Guest<'_, O, I, G> {
             length file.parties ≡ parties_of (node_of self.old) →
             Went O.OutLane I.InLane file rest rest self.old self.new }
         ensures keeps { Keeps (node_of self.old) (node_of self.new) }
+        ensures bounds { SameBounds self.old self.new }
         ensures rests { Rests self.old self.new }
         ensures acts { last_act (laned (worker_of self.new)).log
             ≡ last_act (laned (worker_of self.old)).log }
@@ -83,6 +81,7 @@ impl<O: OutLane, I: InLane, G: Gate> Guest<'_, O, I, G> {
 
         // What stays in any case, and what the lanes counted.
         ensures keeps { Keeps (node_of self.old) (node_of self.new) }
+        ensures bounds { SameBounds self.old self.new }
         ensures counts { Counted O.OutLane I.InLane (worker_of self.old) (worker_of self.new) }
         ensures stop { stop_of (worker_of self.new) ≡ stop_of (worker_of self.old) }
 
@@ -148,6 +147,7 @@ impl<O: OutLane, I: InLane, G: Gate> Guest<'_, O, I, G> {
 
         // What stays in any case, and what the lanes counted.
         ensures keeps { Keeps (node_of self.old) (node_of self.new) }
+        ensures bounds { SameBounds self.old self.new }
         ensures counts { Counted O.OutLane I.InLane (worker_of self.old) (worker_of self.new) }
 
         // Why it isn't.
@@ -188,6 +188,7 @@ impl<O: OutLane, I: InLane, G: Gate> Guest<'_, O, I, G> {
 
         // What stays in any case, and what the lanes counted.
         ensures keeps { Keeps (node_of self.old) (node_of self.new) }
+        ensures bounds { SameBounds self.old self.new }
         ensures counts { Counted O.OutLane I.InLane (worker_of self.old) (worker_of self.new) }
 
         // Why it isn't.

@@ -21,7 +21,7 @@ returns-then-not-may_go_on g c =
     let e = c.deliver-stop.ensures in
     let x = c.loop.invariant in
     let h = rounded_then k c.args.worker.now l m x (record { keeps = e.keeps; idle = e.idle; acts = e.acts; work = e.work }) in
-    record { keeps = h.keeps; idle = h.idle; work = h.work; acts = h.acts; counts = counted_later k c.args.worker.now l m x.counts e.counts; stop = e.stop }
+    record { keeps = h.keeps; idle = h.idle; work = h.work; acts = h.acts; counts = counted_later k c.args.worker.now l m x.counts e.counts; stop = e.stop; ended = e.ended }
 
 pub returns-then-clock-before : goal.returns-then-clock-before
 returns-then-clock-before g c =
@@ -33,7 +33,7 @@ returns-then-clock-before g c =
     let e = c.deliver-stop.ensures in
     let x = c.loop.invariant in
     let h = rounded_then k c.args.worker.now l m x (record { keeps = e.keeps; idle = e.idle; acts = e.acts; work = e.work }) in
-    record { keeps = h.keeps; idle = h.idle; work = h.work; acts = h.acts; counts = counted_later k c.args.worker.now l m x.counts e.counts; stop = e.stop }
+    record { keeps = h.keeps; idle = h.idle; work = h.work; acts = h.acts; counts = counted_later k c.args.worker.now l m x.counts e.counts; stop = e.stop; ended = e.ended }
 
 pub loop-preserved : goal.loop-preserved
 loop-preserved g c =
@@ -56,4 +56,4 @@ returns g c =
     let e = c.deliver.ensures in
     let x = c.loop.invariant in
     let h = rounded_then k c.args.worker.now l m x (record { keeps = e.keeps; idle = e.idle; acts = e.acts; work = e.work }) in
-    record { keeps = h.keeps; idle = h.idle; work = h.work; acts = h.acts; counts = counted_later k c.args.worker.now l m x.counts e.counts; stop = e.stop }
+    record { keeps = h.keeps; idle = h.idle; work = h.work; acts = h.acts; counts = counted_later k c.args.worker.now l m x.counts e.counts; stop = e.stop; ended = e.ended }

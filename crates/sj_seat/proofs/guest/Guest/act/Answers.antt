@@ -2,7 +2,7 @@ use Rattle.std.proofs.Common.{◌≡◌, ◌∷◌, Err, subst, sym}
 use Rattle.sj_work.proofs.LaneLaws.{laws}
 use Rattle.sj_seat.specs.Asked.{asked}
 use Rattle.sj_seat.specs.declared.refusal.SeatRefusal.TheVariants as refusals
-use Rattle.sj_seat.proofs.AfterLemmas.{Waited, waited_err, waited_keeps, waited_more, waited_none, waited_ok, waited_rests, waited_then, waited_vain}
+use Rattle.sj_seat.proofs.AfterLemmas.{Waited, waited_bounds, waited_err, waited_keeps, waited_more, waited_none, waited_ok, waited_rests, waited_then, waited_vain}
 use Rattle.sj_seat.proofs.CountLemmas.{counted_later}
 use Rattle.sj_seat.proofs.guest.Guest.act.Goals as goal
 use Rattle.sj_seat.proofs.guest.Guest.act.Goals.{then-is_due+else-not-is_waiting, else-is_due}
@@ -43,7 +43,7 @@ returns-in-Some-clause-err g c =
           let r = w.attempt-answer.result in
           let h = w.attempt-answer.ensures in
           let waiting : r ≡ Err refusals.Waiting = w.is_waiting.ensures w.if-not-is_waiting.false in
-          let vain = waited_vain k a l w.attempt-answer.new.self r refusals.Waiting waiting c.loop.invariant h.keeps h.rests h.counts (h.waits waiting) h.err in
+          let vain = waited_vain k a l w.attempt-answer.new.self r refusals.Waiting waiting c.loop.invariant h.keeps h.rests h.bounds h.counts (h.waits waiting) h.err in
           subst (Waited g.O.OutLane g.I.InLane a) (sym w.self-is) vain
       | else-is_due w ↦ subst (Waited g.O.OutLane g.I.InLane a) (sym w.self-is) c.loop.invariant
     ] in
@@ -62,12 +62,12 @@ loop-preserved g c =
           let r = w.attempt-answer.result in
           let h = w.attempt-answer.ensures in
           let waiting : r ≡ Err refusals.Waiting = w.is_waiting.ensures w.if-not-is_waiting.false in
-          let vain = waited_vain k a l w.attempt-answer.new.self r refusals.Waiting waiting c.loop.invariant h.keeps h.rests h.counts (h.waits waiting) h.err in
+          let vain = waited_vain k a l w.attempt-answer.new.self r refusals.Waiting waiting c.loop.invariant h.keeps h.rests h.bounds h.counts (h.waits waiting) h.err in
           subst (Waited g.O.OutLane g.I.InLane a) (sym w.self-is) vain
       | else-is_due w ↦ subst (Waited g.O.OutLane g.I.InLane a) (sym w.self-is) c.loop.invariant
     ] in
     let w = c.wait.ensures in
-    waited_more k a j c.wait.new.self waited w.keeps w.rests w.counts (w.none c.in_default.is) w.went
+    waited_more k a j c.wait.new.self waited w.keeps w.rests w.bounds w.counts (w.none c.in_default.is) w.went
 
 pub returns-clause-ok : goal.returns-clause-ok
 returns-clause-ok g c =
@@ -105,7 +105,7 @@ returns-in-Some-clause-counts g c =
           let r = w.attempt-answer.result in
           let h = w.attempt-answer.ensures in
           let waiting : r ≡ Err refusals.Waiting = w.is_waiting.ensures w.if-not-is_waiting.false in
-          let vain = waited_vain k a l w.attempt-answer.new.self r refusals.Waiting waiting c.loop.invariant h.keeps h.rests h.counts (h.waits waiting) h.err in
+          let vain = waited_vain k a l w.attempt-answer.new.self r refusals.Waiting waiting c.loop.invariant h.keeps h.rests h.bounds h.counts (h.waits waiting) h.err in
           subst (Waited g.O.OutLane g.I.InLane a) (sym w.self-is) vain
       | else-is_due w ↦ subst (Waited g.O.OutLane g.I.InLane a) (sym w.self-is) c.loop.invariant
     ] in
@@ -131,11 +131,30 @@ returns-in-Some-clause-keeps g c =
           let r = w.attempt-answer.result in
           let h = w.attempt-answer.ensures in
           let waiting : r ≡ Err refusals.Waiting = w.is_waiting.ensures w.if-not-is_waiting.false in
-          let vain = waited_vain k a l w.attempt-answer.new.self r refusals.Waiting waiting c.loop.invariant h.keeps h.rests h.counts (h.waits waiting) h.err in
+          let vain = waited_vain k a l w.attempt-answer.new.self r refusals.Waiting waiting c.loop.invariant h.keeps h.rests h.bounds h.counts (h.waits waiting) h.err in
           subst (Waited g.O.OutLane g.I.InLane a) (sym w.self-is) vain
       | else-is_due w ↦ subst (Waited g.O.OutLane g.I.InLane a) (sym w.self-is) c.loop.invariant
     ] in
     waited_keeps k a j c.wait.new.self waited c.wait.ensures.keeps
+
+pub returns-in-Some-clause-bounds : goal.returns-in-Some-clause-bounds
+returns-in-Some-clause-bounds g c =
+    let ol = g.met.O.OutLane g.world.𝓛 g.world.𝓜 g.world.𝓡 (λ s x. x, λ x. x, λ x. x, λ x. x) in
+    let il = g.met.I.InLane g.world.𝓛 g.world.𝓜 g.world.𝓡 (λ s x. x, λ x. x, λ x. x, λ x. x) in
+    let k = laws g.O.OutLane g.I.InLane ol.same_itself ol.same_later il.same_itself il.same_later in
+    let a = c.args.self.now in
+    let l = c.loop.self in
+    let j = c.if-is_due.self in
+    let waited : Waited g.O.OutLane g.I.InLane a j = elim c.if-is_due.branch [
+      | then-is_due+else-not-is_waiting w ↦
+          let r = w.attempt-answer.result in
+          let h = w.attempt-answer.ensures in
+          let waiting : r ≡ Err refusals.Waiting = w.is_waiting.ensures w.if-not-is_waiting.false in
+          let vain = waited_vain k a l w.attempt-answer.new.self r refusals.Waiting waiting c.loop.invariant h.keeps h.rests h.bounds h.counts (h.waits waiting) h.err in
+          subst (Waited g.O.OutLane g.I.InLane a) (sym w.self-is) vain
+      | else-is_due w ↦ subst (Waited g.O.OutLane g.I.InLane a) (sym w.self-is) c.loop.invariant
+    ] in
+    waited_bounds k a j c.wait.new.self waited c.wait.ensures.bounds
 
 pub returns-in-Some-clause-rests : goal.returns-in-Some-clause-rests
 returns-in-Some-clause-rests g c =
@@ -150,7 +169,7 @@ returns-in-Some-clause-rests g c =
           let r = w.attempt-answer.result in
           let h = w.attempt-answer.ensures in
           let waiting : r ≡ Err refusals.Waiting = w.is_waiting.ensures w.if-not-is_waiting.false in
-          let vain = waited_vain k a l w.attempt-answer.new.self r refusals.Waiting waiting c.loop.invariant h.keeps h.rests h.counts (h.waits waiting) h.err in
+          let vain = waited_vain k a l w.attempt-answer.new.self r refusals.Waiting waiting c.loop.invariant h.keeps h.rests h.bounds h.counts (h.waits waiting) h.err in
           subst (Waited g.O.OutLane g.I.InLane a) (sym w.self-is) vain
       | else-is_due w ↦ subst (Waited g.O.OutLane g.I.InLane a) (sym w.self-is) c.loop.invariant
     ] in
@@ -187,3 +206,17 @@ returns-clause-keeps g c =
     let il = g.met.I.InLane g.world.𝓛 g.world.𝓜 g.world.𝓡 (λ s x. x, λ x. x, λ x. x, λ x. x) in
     let k = laws g.O.OutLane g.I.InLane ol.same_itself ol.same_later il.same_itself il.same_later in
     waited_keeps k c.args.self.now c.loop.self c.attempt.new.self c.loop.invariant c.attempt.ensures.keeps
+
+pub returns-then-not-is_waiting-clause-bounds : goal.returns-then-not-is_waiting-clause-bounds
+returns-then-not-is_waiting-clause-bounds g c =
+    let ol = g.met.O.OutLane g.world.𝓛 g.world.𝓜 g.world.𝓡 (λ s x. x, λ x. x, λ x. x, λ x. x) in
+    let il = g.met.I.InLane g.world.𝓛 g.world.𝓜 g.world.𝓡 (λ s x. x, λ x. x, λ x. x, λ x. x) in
+    let k = laws g.O.OutLane g.I.InLane ol.same_itself ol.same_later il.same_itself il.same_later in
+    waited_bounds k c.args.self.now c.loop.self c.attempt-answer.new.self c.loop.invariant c.attempt-answer.ensures.bounds
+
+pub returns-clause-bounds : goal.returns-clause-bounds
+returns-clause-bounds g c =
+    let ol = g.met.O.OutLane g.world.𝓛 g.world.𝓜 g.world.𝓡 (λ s x. x, λ x. x, λ x. x, λ x. x) in
+    let il = g.met.I.InLane g.world.𝓛 g.world.𝓜 g.world.𝓡 (λ s x. x, λ x. x, λ x. x, λ x. x) in
+    let k = laws g.O.OutLane g.I.InLane ol.same_itself ol.same_later il.same_itself il.same_later in
+    waited_bounds k c.args.self.now c.loop.self c.attempt.new.self c.loop.invariant c.attempt.ensures.bounds

@@ -2,7 +2,7 @@ use Rattle.std.proofs.Common.{◌≡◌, ◌∷◌, Err}
 use Rattle.sj_work.proofs.LaneLaws.{laws}
 use Rattle.sj_seat.specs.Wishes.{open_wished}
 use Rattle.sj_seat.specs.declared.refusal.SeatRefusal.TheVariants as refusals
-use Rattle.sj_seat.proofs.AfterLemmas.{waited_ends, waited_err, waited_keeps, waited_more, waited_none, waited_ok, waited_then, waited_vain}
+use Rattle.sj_seat.proofs.AfterLemmas.{bounds_later, waited_bounds, waited_ends, waited_err, waited_keeps, waited_more, waited_none, waited_ok, waited_then, waited_vain}
 use Rattle.sj_seat.proofs.CountLemmas.{counted_later}
 use Rattle.sj_seat.proofs.guest.Guest.act_open.Goals as goal
 
@@ -40,7 +40,7 @@ returns-in-Some-clause-err g c =
     let r = c.attempt_open-answer.result in
     let h = c.attempt_open-answer.ensures in
     let waiting : r ≡ Err refusals.Waiting = c.is_waiting.ensures c.if-not-is_waiting.false in
-    let vain = waited_vain k a l m r refusals.Waiting waiting c.loop.invariant h.keeps h.rests h.counts (h.waits waiting) h.err in
+    let vain = waited_vain k a l m r refusals.Waiting waiting c.loop.invariant h.keeps h.rests h.bounds h.counts (h.waits waiting) h.err in
     λ file rest parties. waited_then k a m c.wait.new.self file rest rest vain parties (c.wait.ensures.went file rest)
 
 pub loop-preserved : goal.loop-preserved
@@ -54,9 +54,9 @@ loop-preserved g c =
     let r = c.attempt_open-answer.result in
     let h = c.attempt_open-answer.ensures in
     let waiting : r ≡ Err refusals.Waiting = c.is_waiting.ensures c.if-not-is_waiting.false in
-    let vain = waited_vain k a l m r refusals.Waiting waiting c.loop.invariant h.keeps h.rests h.counts (h.waits waiting) h.err in
+    let vain = waited_vain k a l m r refusals.Waiting waiting c.loop.invariant h.keeps h.rests h.bounds h.counts (h.waits waiting) h.err in
     let w = c.wait.ensures in
-    waited_more k a m c.wait.new.self vain w.keeps w.rests w.counts (w.none c.in_default.is) w.went
+    waited_more k a m c.wait.new.self vain w.keeps w.rests w.bounds w.counts (w.none c.in_default.is) w.went
 
 pub returns-clause-ok : goal.returns-clause-ok
 returns-clause-ok g c =
@@ -135,3 +135,25 @@ returns-clause-keeps g c =
     let il = g.met.I.InLane g.world.𝓛 g.world.𝓜 g.world.𝓡 (λ s x. x, λ x. x, λ x. x, λ x. x) in
     let k = laws g.O.OutLane g.I.InLane ol.same_itself ol.same_later il.same_itself il.same_later in
     waited_keeps k c.args.self.now c.loop.self c.attempt_open.new.self c.loop.invariant c.attempt_open.ensures.keeps
+
+pub returns-then-not-is_waiting-clause-bounds : goal.returns-then-not-is_waiting-clause-bounds
+returns-then-not-is_waiting-clause-bounds g c =
+    let ol = g.met.O.OutLane g.world.𝓛 g.world.𝓜 g.world.𝓡 (λ s x. x, λ x. x, λ x. x, λ x. x) in
+    let il = g.met.I.InLane g.world.𝓛 g.world.𝓜 g.world.𝓡 (λ s x. x, λ x. x, λ x. x, λ x. x) in
+    let k = laws g.O.OutLane g.I.InLane ol.same_itself ol.same_later il.same_itself il.same_later in
+    waited_bounds k c.args.self.now c.loop.self c.attempt_open-answer.new.self c.loop.invariant c.attempt_open-answer.ensures.bounds
+
+pub returns-clause-bounds : goal.returns-clause-bounds
+returns-clause-bounds g c =
+    let ol = g.met.O.OutLane g.world.𝓛 g.world.𝓜 g.world.𝓡 (λ s x. x, λ x. x, λ x. x, λ x. x) in
+    let il = g.met.I.InLane g.world.𝓛 g.world.𝓜 g.world.𝓡 (λ s x. x, λ x. x, λ x. x, λ x. x) in
+    let k = laws g.O.OutLane g.I.InLane ol.same_itself ol.same_later il.same_itself il.same_later in
+    waited_bounds k c.args.self.now c.loop.self c.attempt_open.new.self c.loop.invariant c.attempt_open.ensures.bounds
+
+pub returns-in-Some-clause-bounds : goal.returns-in-Some-clause-bounds
+returns-in-Some-clause-bounds g c =
+    let ol = g.met.O.OutLane g.world.𝓛 g.world.𝓜 g.world.𝓡 (λ s x. x, λ x. x, λ x. x, λ x. x) in
+    let il = g.met.I.InLane g.world.𝓛 g.world.𝓜 g.world.𝓡 (λ s x. x, λ x. x, λ x. x, λ x. x) in
+    let k = laws g.O.OutLane g.I.InLane ol.same_itself ol.same_later il.same_itself il.same_later in
+    let so = waited_bounds k c.args.self.now c.loop.self c.attempt_open-answer.new.self c.loop.invariant c.attempt_open-answer.ensures.bounds in
+    bounds_later k c.args.self.now c.attempt_open-answer.new.self c.wait.new.self so c.wait.ensures.bounds

@@ -26,6 +26,7 @@ returns-in-Some g c =
       tells = tt;
       stays = record { node = refl; posts = λ q. refl; log = refl; table = refl; party = refl; parties = refl; connects = refl };
       keeps = record { party = refl; parties = refl; connects = refl; table = refl; clock = omega arith };
+      bounds = record { texts = refl; looks = refl };
       counts = counted_itself k a.worker;
       cause = inl c.in-Some.ensures.some;
       waits = λ is. absurd (cc is);
@@ -47,6 +48,7 @@ returns-then-is_err g c =
       tells = tt;
       stays = record { node = refl; posts = λ q. refl; log = refl; table = refl; party = refl; parties = refl; connects = refl };
       keeps = record { party = refl; parties = refl; connects = refl; table = refl; clock = omega arith };
+      bounds = record { texts = refl; looks = refl };
       counts = counted_itself k a.worker;
       cause = tt;
       waits = λ is. absurd (cc is);
@@ -75,6 +77,7 @@ returns-in-Ok g c =
       tells = tells_still m.worker b.worker (asked c.args.call) c.in-Ok.msg c.settle.ensures.acts h.tells;
       stays = tt;
       keeps = keeps_later a.worker.node m.worker.node b.worker.node h.keeps c.settle.ensures.keeps;
+      bounds = record { texts = c.settle.ensures.bounds.texts ∙ h.bounds.texts; looks = c.settle.ensures.bounds.looks ∙ h.bounds.looks };
       counts = counted_later k a.worker m.worker b.worker h.counts c.settle.ensures.counts;
       cause = tt;
       waits = λ is. absurd (cc is);
@@ -94,6 +97,7 @@ returns-in-Err g c =
       tells = tt;
       stays = h.stays;
       keeps = h.keeps;
+      bounds = record { texts = h.bounds.texts; looks = h.bounds.looks };
       counts = h.counts;
       cause = c.refused.ensures (asked c.args.call) h.cause;
       waits = λ is. ap kept_stop h.stop ∙ c.stopped.ensures.none c.in_default.is;

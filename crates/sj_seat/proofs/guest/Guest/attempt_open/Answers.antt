@@ -24,6 +24,7 @@ returns-in-Some g c =
       opened = tt;
       rests = record { ends = refl; calls = refl; may = refl };
       keeps = record { party = refl; parties = refl; connects = refl; table = refl; clock = omega arith };
+      bounds = record { texts = refl; looks = refl };
       counts = counted_itself k a.worker;
       cause = inl c.in-Some.ensures.some;
       waits = λ is. absurd (cc is);
@@ -44,6 +45,7 @@ returns-then-is_err g c =
       opened = tt;
       rests = record { ends = ap (ends_at a.table) c.reserve.ensures.items; calls = refl; may = refl };
       keeps = record { party = refl; parties = refl; connects = refl; table = refl; clock = omega arith };
+      bounds = record { texts = refl; looks = refl };
       counts = counted_itself k a.worker;
       cause = tt;
       waits = λ is. absurd (cc is);
@@ -77,6 +79,11 @@ pub returns-in-Ok-clause-keeps : goal.returns-in-Ok-clause-keeps
 returns-in-Ok-clause-keeps g c =
     keeps_later c.args.self.now.worker.node c.make_open.new.self.worker.node c.settle.new.self.worker.node c.in-Ok.ensures.keeps c.settle.ensures.keeps
 
+pub returns-in-Ok-clause-bounds : goal.returns-in-Ok-clause-bounds
+returns-in-Ok-clause-bounds g c =
+    let h = c.in-Ok.ensures in
+    record { texts = c.settle.ensures.bounds.texts ∙ h.bounds.texts; looks = c.settle.ensures.bounds.looks ∙ h.bounds.looks }
+
 pub returns-in-Err : goal.returns-in-Err
 returns-in-Err g c =
     let a = c.args.self.now in
@@ -90,6 +97,7 @@ returns-in-Err g c =
       opened = tt;
       rests = record { ends = h.rests.ends ∙ ap (ends_at a.table) c.reserve.ensures.items; calls = h.rests.calls; may = h.rests.may };
       keeps = h.keeps;
+      bounds = record { texts = h.bounds.texts; looks = h.bounds.looks };
       counts = h.counts;
       cause = c.refused.ensures (open_wished c.args.wish) h.cause;
       waits = λ is. ap kept_stop h.stop ∙ c.stopped.ensures.none c.in_default.is;

@@ -28,6 +28,7 @@ returns-in-Ok g c =
       opened = h.opened;
       rests = tt;
       keeps = h.keeps;
+      bounds = record { texts = refl; looks = refl };
       counts = h.counts;
       stop = h.stop;
       cause = tt;
@@ -47,3 +48,6 @@ returns-in-Err-clause-counts g c = c.in-Err.ensures.counts
 
 pub returns-in-Err-clause-stop : goal.returns-in-Err-clause-stop
 returns-in-Err-clause-stop g c = c.in-Err.ensures.stop
+
+pub returns-in-Err-clause-bounds : goal.returns-in-Err-clause-bounds
+returns-in-Err-clause-bounds g c = record { texts = refl; looks = refl }

@@ -19,6 +19,9 @@ returns-in-Err-attempt-clause-cause g c =
 pub returns-in-Err-attempt-clause-err : goal.returns-in-Err-attempt-clause-err
 returns-in-Err-attempt-clause-err g c = c.in-Err-attempt.ensures.err
 
+pub returns-in-Err-attempt-clause-stays : goal.returns-in-Err-attempt-clause-stays
+returns-in-Err-attempt-clause-stays g c = c.in-Err-attempt.ensures.stays
+
 pub returns-in-Err-attempt-clause-rests : goal.returns-in-Err-attempt-clause-rests
 returns-in-Err-attempt-clause-rests g c = c.in-Err-attempt.ensures.rests
 
