@@ -38,3 +38,9 @@ none_so (Ok (Some x)) P Q f h = tt
 pub error_so : {T E : Type 0} (r : Result T E) (P Q : Type 0) → (P → Q) → OnErr r P → OnErr r Q
 error_so (Err e) P Q f h = f h
 error_so (Ok x) P Q f h = tt
+
+-- what follows from two facts of an answer with an entry
+pub done_both : {T E : Type 0} (r : Result (Option T) E) (P Q S : T → Type 0) → ((x : T) → P x → Q x → S x) → IfOk r (λ o. IfSome o P) → IfOk r (λ o. IfSome o Q) → IfOk r (λ o. IfSome o S)
+done_both (Err e) P Q S f h k = tt
+done_both (Ok None) P Q S f h k = tt
+done_both (Ok (Some x)) P Q S f h k = f x h k

@@ -2,6 +2,7 @@
 use Rattle.std.proofs.Common.{◌≡◌, ◌⊎◌, ℕ, zero, suc, ◌+◌, ◌<◌, ◌≤◌, Bool, List, [], ◌∷◌, ◌++◌, length, take, get_or, slice_get, Option, Some, None, option_map, refl, ap, sym, ◌∙◌, subst, inl, inr, length-append, arith}
 use Rattle.std.proofs.lemmas.List.{length-take-le, take_all, take_more}
 use Rattle.std.proofs.lemmas.Option.{slice_get_within}
+use Rattle.sj_base.specs.declared.EndId.{EndId}
 use Rattle.sj_core.proofs.FirstLemmas.{behind}
 use Rattle.sj_lang.specs.FileAt.{FileAt, PartyAt}
 use Rattle.sj_node.specs.declared.node.Node.{Node}
@@ -10,6 +11,7 @@ use Rattle.sj_seat_laws.specs.SeatsStart.{Callers, seats_from, seats_start}
 use Rattle.sj_seat_laws.specs.SeatsWorld.{seat_of}
 use Rattle.sj_table.specs.declared.table.Table.{Table}
 use Rattle.sj_seats.specs.Beginning.{AreBegun, HasBegun, SitsSo}
+use Rattle.sj_seats.specs.Openings.{opened_by}
 use Rattle.sj_seats.specs.declared.played.Chair.{Chair}
 
 -- ---- one party more
@@ -88,3 +90,8 @@ nothing_at [] zero le = refl
 nothing_at [] (suc p) le = refl
 nothing_at (x ∷ xs) zero le = absurd (omega arith)
 nothing_at (x ∷ xs) (suc p) le = nothing_at xs p (omega arith)
+
+-- where no list is told, each session counts as protocol 0
+pub none_opened : (q : ℕ) (e : EndId) → opened_by [] q e ≡ 0
+none_opened zero e = refl
+none_opened (suc q) e = refl

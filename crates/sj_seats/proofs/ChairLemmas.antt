@@ -49,7 +49,7 @@ over_set t nodes p new within over own q n is =
 
 -- ---- what a line that tells no call of a code leaves to call
 
-if_none : (b : Bool) → ◌≡◌ {A = List Call} (if b then [] else []) []
+pub if_none : (b : Bool) → ◌≡◌ {A = List Call} (if b then [] else []) []
 if_none true = refl
 if_none false = refl
 

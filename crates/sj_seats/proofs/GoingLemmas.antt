@@ -1,5 +1,5 @@
 -- Worlds with seats that go on by a delivery or by the act of a party of the file, or stay.
-use Rattle.std.proofs.Common.{◌≡◌, ℕ, max, Bool, false, List, [], ◌∷◌, ◌++◌, length, Option, Some, None, option_map, option_and_then, refl, ap, sym, ◌∙◌, subst}
+use Rattle.std.proofs.Common.{◌≡◌, ℕ, max, false, List, [], ◌∷◌, ◌++◌, length, Option, Some, None, option_map, option_and_then, refl, ap, sym, ◌∙◌, subst}
 use Rattle.sj_core.proofs.HistoryLemmas.{log_more}
 use Rattle.sj_core.specs.NodeWorld.{IsOfAccepted}
 use Rattle.sj_core.specs.Nodes.{AreSeated, Moves, NodesStay, world_by}
@@ -9,6 +9,7 @@ use Rattle.sj_end.specs.declared.note.Event.{Event}
 use Rattle.sj_end.specs.declared.note.Event.TheVariants as events
 use Rattle.sj_lang.specs.FileAt.{FileAt}
 use Rattle.sj_lang.specs.Place.{Place}
+use Rattle.sj_node.specs.declared.node.Node.{Node}
 use Rattle.sj_rules.specs.History.{IsLog, due, event_note, line_after}
 use Rattle.sj_rules.specs.Log.{LineAt, NoteAt}
 use Rattle.sj_rules.specs.Node.{Play}
@@ -24,7 +25,7 @@ use Rattle.sj_semantics.specs.Program.{Program}
 use Rattle.sj_table.specs.declared.table.Table.{Table}
 use Rattle.sj_seats.specs.Calls.{callers_by, first_calls, then_calls}
 use Rattle.sj_seats.specs.Core.{AreOver, chair_of, core_by, is_seat, played, seats_by}
-use Rattle.sj_seats.specs.Played.{HasParties, IsLed, IsLedBy, IsReached, Keeps, Redoes, Rests, callers_in, chairs_in, core_in, file_in, history_in, nodes_in, opened_in}
+use Rattle.sj_seats.specs.Played.{HasParties, IsDueFor, IsLed, IsLedBy, IsReached, Keeps, Redoes, Rests, callers_in, chairs_in, core_in, file_in, history_in, nodes_in, opened_in}
 use Rattle.sj_seats.specs.declared.played.Chair.{Chair}
 use Rattle.sj_seats.specs.declared.played.PlayedWorld.{PlayedWorld}
 use Rattle.sj_seats.proofs.ChairLemmas.{no_seat, none_by_file, none_delivered, seats_calling}
@@ -121,6 +122,10 @@ delivery_redoes c d beside p q e moves old over =
     (λ rest. delivery_played (file_in c) (seats_by c.table (chairs_in c) rest) w p q)
     (λ rest. refl)
 
+-- the line of an event is of that event
+pub moved_event : (file : FileAt) (old : List Node) (p : ℕ) (event : Event) (e : Entry) (new : List Node) → Moves file old p event e new → (line_with p e).entry.event ≡ event_at event
+moved_event file old p event e new moves = due_event (play_of file) max (world_by file old) p (event_at event) (line_with p e) moves.line
+
 -- the act of a party that goes by the file
 pub act_redoes : (c d : PlayedWorld) → Beside c d → (p : ℕ) (e : Entry) → is_seat (chairs_in c) p ≡ false → Moves (file_in c) (nodes_in c) p events.Act e (nodes_in d) → HasParties c → AreOver c.table (nodes_in d) → Redoes c (line_with p e) d
 act_redoes c d beside p e own moves old over =
@@ -131,6 +136,28 @@ act_redoes c d beside p e own moves old over =
     (λ rest. none_by_file (opened_in c) c.table (chairs_in c) (line_with p e) rest none)
     (λ rest. act_played (file_in c) (seats_by c.table (chairs_in c) rest) w p (nobody rest))
     (λ rest. act_noted (file_in c) (seats_by c.table (chairs_in c) rest) w p (nobody rest))
+
+-- ---- what was made is due for each event that is asked for so
+
+module _ (c : PlayedWorld) (d : PlayedWorld) (made asked : LineAt) (redone : Redoes c made d) (whose : asked.party ≡ made.party) where
+  due_alike : (event : world.Event) → made.entry.event ≡ event → asked.entry.event ≡ event
+      → ((rest : ℕ → List Call) (q : ℕ) → seats_by c.table (chairs_in c) (first_calls (opened_in c) asked rest) q ≡ seats_by c.table (chairs_in c) (first_calls (opened_in c) made rest) q) → IsDueFor c asked made
+  due_alike event is was same rest =
+      (λ i. due (seated_play (file_in c)) max (played (λ q. same rest q i) (world_by (file_in c) (nodes_in c))) (whose i) ((was ∙ sym is) i)) ∙ redone.due_line rest
+
+  -- of a delivery
+  pub delivery_finds : (from : ℕ) → made.entry.event ≡ Deliver from → asked.entry.event ≡ Deliver from → IsDueFor c asked made
+  delivery_finds from is was =
+      due_alike (Deliver from) is was
+      (λ rest q. seats_calling c.table (chairs_in c) (first_calls (opened_in c) asked rest) (first_calls (opened_in c) made rest)
+      (λ r. none_delivered (opened_in c) asked rest from was r ∙ sym (none_delivered (opened_in c) made rest from is r)) q)
+
+  -- of an act of a party that goes by the file
+  pub act_finds : is_seat (chairs_in c) asked.party ≡ false → made.entry.event ≡ Act → asked.entry.event ≡ Act → IsDueFor c asked made
+  act_finds own is was =
+      let none : chair_of (chairs_in c) asked.party ≡ None = no_seat (chairs_in c) asked.party own in
+      let none_made : chair_of (chairs_in c) made.party ≡ None = ap (chair_of (chairs_in c)) (sym whose) ∙ none in
+      due_alike Act is was (λ rest q. none_by_file (opened_in c) c.table (chairs_in c) asked rest none q ∙ sym (none_by_file (opened_in c) c.table (chairs_in c) made rest none_made q))
 
 -- ---- what leads on
 

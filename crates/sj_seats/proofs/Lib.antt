@@ -7,9 +7,11 @@ mod GoingLemmas
 mod CalledLemmas
 mod MakingLemmas
 mod CallingLemmas
+mod WishLemmas
 mod SessionLemmas
 mod SittingLemmas
 mod RunLemmas
+mod AddedLemmas
 mod DrainLemmas
 mod ListingLemmas
 mod ReplayLemmas

@@ -1,5 +1,5 @@
 -- A call that a code makes, of whichever kind, is a step of the world in which its party is played by code.
-use Rattle.std.proofs.Common.{◌≡◌, ◌≢◌, ℕ, ◌+◌, ◌<◌, max, Bool, if◌then◌else◌, List, [], ◌∷◌, ◌++◌, length, slice_get, unwrap_or, Option, Some, None, option_map, refl, ap, sym, ◌∙◌, subst}
+use Rattle.std.proofs.Common.{◌≡◌, ◌≢◌, ℕ, ◌==◌, ◌+◌, ◌<◌, max, Bool, if◌then◌else◌, List, [], ◌∷◌, ◌++◌, length, slice_get, unwrap_or, Option, Some, None, option_map, refl, ap, sym, ◌∙◌, subst}
 use Rattle.std.specs.Prelude.{is_some}
 use Rattle.std.proofs.Math.ListN.{set}
 use Rattle.std.proofs.lemmas.List.{length-set}
@@ -26,7 +26,7 @@ use Rattle.sj_rules.specs.Node.{NodeAt, acts}
 use Rattle.sj_rules.specs.NodeRun.{Steps}
 use Rattle.sj_rules.specs.Rows.{Worked}
 use Rattle.sj_rules.specs.Start.{first_node}
-use Rattle.sj_rules.specs.World.{Act, WorldAt, after_event, happens, lanes_with, with_node}
+use Rattle.sj_rules.specs.World.{Act, Event, WorldAt, after_event, happens, lanes_with, with_node}
 use Rattle.sj_seat.proofs.CalledLemmas.{act_step}
 use Rattle.sj_seat_laws.specs.Calls.{Call, SeatedAt}
 use Rattle.sj_seat_laws.specs.SeatedPlay.{Player, seated, seated_play}
@@ -36,7 +36,7 @@ use Rattle.sj_semantics.specs.Program.{Program}
 use Rattle.sj_table.specs.declared.table.Table.{Table}
 use Rattle.sj_seats.specs.Calls.{call_of_event, calls_in, first_calls, one_call, end_in}
 use Rattle.sj_seats.specs.Core.{AreOver, chair_of, core_by, is_seat, played, seat_by, seats_by}
-use Rattle.sj_seats.specs.Played.{HasParties, Redoes, chairs_in, core_in, file_in, nodes_in, opened_in}
+use Rattle.sj_seats.specs.Played.{HasParties, IsDueFor, Redoes, chairs_in, core_in, file_in, nodes_in, opened_in}
 use Rattle.sj_seats.specs.declared.played.Chair.{Chair}
 use Rattle.sj_seats.specs.declared.played.PlayedWorld.{PlayedWorld}
 use Rattle.sj_seats.proofs.ChairLemmas.{chair_here, chair_there, none_of_others, over_set, seats_same}
@@ -59,9 +59,8 @@ pub record Makes (t : Table) (opened : EndId → ℕ) (old : Node) (before : Cha
   pub steps : (file : FileAt) (p : ℕ) → parties_of old ≡ length file.parties → party_of old ≡ p → (rest : List Call)
       → StepsTo file p (seat_by t (call ∷ rest) before) old (note_seen note) left (seat_by t rest after)
 
-module _ (c d : PlayedWorld) (p : ℕ) (old new : Node) (before after : Chair) (call : Call) (e : Entry) (x : Makes c.table (opened_in c p) old before call e new after) (parties : HasParties c)
-    (there : slice_get (nodes_in c) p ≡ Some old) (sits : slice_get (chairs_in c) p ≡ Some (Some before))
-    (file : file_in d ≡ file_in c) (table : d.table ≡ c.table) (told : opened_in d ≡ opened_in c) (nodes : nodes_in d ≡ set (nodes_in c) p new) (chairs : chairs_in d ≡ set (chairs_in c) p (Some after)) where
+module _ (c : PlayedWorld) (p : ℕ) (old new : Node) (before after : Chair) (call : Call) (e : Entry) (told_as : EndId → ℕ) (x : Makes c.table told_as old before call e new after) (parties : HasParties c)
+    (there : slice_get (nodes_in c) p ≡ Some old) (sits : slice_get (chairs_in c) p ≡ Some (Some before)) where
   abbrev t : Table
   t = c.table
 
@@ -98,19 +97,21 @@ module _ (c d : PlayedWorld) (p : ℕ) (old new : Node) (before after : Chair) (
   within_chairs : p < length (chairs_in c)
   within_chairs = slice_get_within (chairs_in c) p (Some before) sits
 
-  -- the line tells that call
-  line_tells : calls_in (opened_in c) p line ≡ call ∷ []
-  line_tells =
-      ap (λ (b : Bool). if b then call_of_event (opened_in c p) line.entry.event line.entry.note else []) (same_eqb p)
-      ∙ ap (λ (f : Entry). call_of_event (opened_in c p) (line_with p f).entry.event (line_with p f).entry.note) entry_so
-      ∙ ap one_call x.tells
+  -- a line of such an act tells that call
+  act_tells : (asked : LineAt) → asked.party ≡ p → asked.entry.event ≡ Act → call_told (opened_in c p (end_in asked.entry.note)) asked.entry.note ≡ Some call → calls_in (opened_in c) p asked ≡ call ∷ []
+  act_tells asked whose act tells =
+      ap (λ (q : ℕ). if p == q then call_of_event (opened_in c p) asked.entry.event asked.entry.note else []) whose
+      ∙ ap (λ (b : Bool). if b then call_of_event (opened_in c p) asked.entry.event asked.entry.note else []) (same_eqb p)
+      ∙ ap (λ (ev : Event). call_of_event (opened_in c p) ev asked.entry.note) act
+      ∙ ap one_call tells
 
-  module _ (rest : ℕ → List Call) where
+  -- the calls are that one first, at its party, and then those
+  module _ (rest calls : ℕ → List Call) (next : calls p ≡ call ∷ rest p) (same : (q : ℕ) → q ≢ p → calls q ≡ rest q) where
     abbrev s : SeatedAt
     s = seat_by t (call ∷ rest p) before
 
     abbrev who : ℕ → Option SeatedAt
-    who = seats_by t (chairs_in c) (first_calls (opened_in c) line rest)
+    who = seats_by t (chairs_in c) calls
 
     abbrev more : ℕ → Option SeatedAt
     more = seats_by t (set (chairs_in c) p (Some after)) rest
@@ -119,7 +120,7 @@ module _ (c d : PlayedWorld) (p : ℕ) (old new : Node) (before after : Chair) (
     w_after = world_by own_file (set (nodes_in c) p new)
 
     who_is : who p ≡ Some s
-    who_is = ap (option_map (seat_by t (first_calls (opened_in c) line rest p))) chair_is ∙ ap (λ (cs : List Call). Some (seat_by t (cs ++ rest p) before)) line_tells
+    who_is = ap (option_map (seat_by t (calls p))) chair_is ∙ ap (λ (cs : List Call). Some (seat_by t cs before)) next
 
     here : (played who w).nodes p ≡ with_player (seated s) (node_at old)
     here =
@@ -142,7 +143,7 @@ module _ (c d : PlayedWorld) (p : ℕ) (old new : Node) (before after : Chair) (
     others : (q : ℕ) → q ≢ p → more q ≡ who q
     others q apart =
         ap (option_map (seat_by t (rest q))) (chair_there (chairs_in c) p (Some after) within_chairs q apart)
-        ∙ ap (λ (cs : List Call). option_map (seat_by t cs) (chair_of (chairs_in c) q)) (sym (none_of_others (opened_in c) line rest q apart))
+        ∙ ap (λ (cs : List Call). option_map (seat_by t cs) (chair_of (chairs_in c) q)) (sym (same q apart))
 
     last_is : after_event w p clock w.lanes left ≡ w_after
     last_is =
@@ -154,9 +155,6 @@ module _ (c d : PlayedWorld) (p : ℕ) (old new : Node) (before after : Chair) (
         (λ i. option_map (after_event (played who w) p ((here i).clock + 1) w.lanes) (acts (seated_play own_file) p (here i)))
         ∙ ap (option_map (after_event (played who w) p clock w.lanes)) stepped.row
         ∙ ap Some (done_is ∙ after_played who more w p clock w.lanes left (seated then_seat) own_is others ∙ ap (played more) last_is)
-
-    core_so : played more w_after ≡ core_in d rest
-    core_so = λ i. core_by (sym file i) (sym table i) (sym nodes i) (sym chairs i) rest
 
     due_so : due (seated_play own_file) max (played who w) p Act ≡ Some line
     due_so =
@@ -177,21 +175,45 @@ module _ (c d : PlayedWorld) (p : ℕ) (old new : Node) (before after : Chair) (
   seats_then : AreSeated own_file (set (nodes_in c) p new)
   seats_then = still_seated own_file (nodes_in c) p old new there parties.seats unlogged.party unlogged.parties unlogged.table unlogged.connects unlogged.log
 
-  pub make_redoes : Redoes c line d
-  make_redoes = record {
-    step = λ rest. (λ i. happens (seated_play own_file) max (played (who rest) w) p (event_is i)) ∙ happens_so rest ∙ ap Some (core_so rest);
-    due_line = λ rest. (λ i. due (seated_play own_file) max (played (who rest) w) p (event_is i)) ∙ due_so rest;
-    parties = record {
-      seats = subst (λ (f : FileAt). AreSeated f (nodes_in d)) (sym file) (subst (AreSeated own_file) (sym nodes) seats_then);
-      over = subst (λ (u : Table). AreOver u (nodes_in d)) (sym table) (subst (AreOver t) (sym nodes) (over_set t (nodes_in c) p new within_nodes parties.over (unlogged.table ∙ parties.over p old there)));
-      carries = subst Rattle.sj_seat.specs.Places.CarriesPlaces (sym table) parties.carries;
-      count = ap length chairs ∙ length-set (chairs_in c) p (Some after) ∙ parties.count ∙ sym (ap length nodes ∙ length-set (nodes_in c) p new);
-    };
-    keeps = record {
-      file = file;
-      table = table;
-      opened = told;
-      seats = λ q. ap (λ (cs : List (Option Chair)). is_seat cs q) chairs ∙ seats_same (chairs_in c) p (Some after) within_chairs (sym (ap is_some chair_is)) q;
-      count = ap length nodes ∙ length-set (nodes_in c) p new;
-    };
-  }
+  -- the line of an act that tells the call finds this one
+  pub make_finds : (asked : LineAt) → asked.party ≡ p → asked.entry.event ≡ Act → call_told (opened_in c p (end_in asked.entry.note)) asked.entry.note ≡ Some call → IsDueFor c asked line
+  make_finds asked whose act tells rest =
+      let calls = first_calls (opened_in c) asked rest in
+      let next : calls p ≡ call ∷ rest p = ap (λ (cs : List Call). cs ++ rest p) (act_tells asked whose act tells) in
+      let same : (q : ℕ) → q ≢ p → calls q ≡ rest q = λ q apart. none_of_others (opened_in c) asked rest q (λ e. apart (e ∙ whose)) in
+      (λ i. due (seated_play own_file) max (played (seats_by t (chairs_in c) calls) w) (whose i) (act i)) ∙ due_so rest calls next same
+
+  -- the step leads to that world
+  module _ (d : PlayedWorld) (file : file_in d ≡ file_in c) (table : d.table ≡ c.table) (told : opened_in d ≡ opened_in c) (nodes : nodes_in d ≡ set (nodes_in c) p new) (chairs : chairs_in d ≡ set (chairs_in c) p (Some after)) where
+    core_so : (rest : ℕ → List Call) → played (seats_by t (set (chairs_in c) p (Some after)) rest) (world_by own_file (set (nodes_in c) p new)) ≡ core_in d rest
+    core_so rest = λ i. core_by (sym file i) (sym table i) (sym nodes i) (sym chairs i) rest
+
+    pub make_redoes : told_as (end_in (note_seen x.note)) ≡ opened_in c p (end_in (note_seen x.note)) → Redoes c line d
+    make_redoes as_told =
+        let tells : calls_in (opened_in c) p line ≡ call ∷ [] =
+        act_tells line refl event_is
+        (ap (λ (f : Entry). call_told (opened_in c p (end_in (line_with p f).entry.note)) (line_with p f).entry.note) entry_so ∙ ap (λ (n : ℕ). call_told n (note_seen x.note)) (sym as_told) ∙ x.tells) in
+        let calls : (ℕ → List Call) → ℕ → List Call = first_calls (opened_in c) line in
+        let next : (rest : ℕ → List Call) → calls rest p ≡ call ∷ rest p = λ rest. ap (λ (cs : List Call). cs ++ rest p) tells in
+        let same : (rest : ℕ → List Call) (q : ℕ) → q ≢ p → calls rest q ≡ rest q = λ rest. none_of_others (opened_in c) line rest in
+        record {
+          step = λ rest.
+              (λ i. happens (seated_play own_file) max (played (seats_by t (chairs_in c) (calls rest)) w) p (event_is i))
+              ∙ happens_so rest (calls rest) (next rest) (same rest) ∙ ap Some (core_so rest);
+          due_line = λ rest.
+              (λ i. due (seated_play own_file) max (played (seats_by t (chairs_in c) (calls rest)) w) p (event_is i))
+              ∙ due_so rest (calls rest) (next rest) (same rest);
+          parties = record {
+            seats = subst (λ (f : FileAt). AreSeated f (nodes_in d)) (sym file) (subst (AreSeated own_file) (sym nodes) seats_then);
+            over = subst (λ (u : Table). AreOver u (nodes_in d)) (sym table) (subst (AreOver t) (sym nodes) (over_set t (nodes_in c) p new within_nodes parties.over (unlogged.table ∙ parties.over p old there)));
+            carries = subst Rattle.sj_seat.specs.Places.CarriesPlaces (sym table) parties.carries;
+            count = ap length chairs ∙ length-set (chairs_in c) p (Some after) ∙ parties.count ∙ sym (ap length nodes ∙ length-set (nodes_in c) p new);
+          };
+          keeps = record {
+            file = file;
+            table = table;
+            opened = told;
+            seats = λ q. ap (λ (cs : List (Option Chair)). is_seat cs q) chairs ∙ seats_same (chairs_in c) p (Some after) within_chairs (sym (ap is_some chair_is)) q;
+            count = ap length nodes ∙ length-set (nodes_in c) p new;
+          };
+        }

@@ -15,8 +15,8 @@ use Rattle.sj_seat_laws.specs.SeatsStart.{Callers}
 use Rattle.sj_seat_told_laws.specs.SeatsHistory.{IsSeatsHistory}
 use Rattle.sj_seats.specs.Calls.{OpenedAs, callers_by, then_calls}
 use Rattle.sj_seats.specs.Core.{is_seat}
-use Rattle.sj_seats.specs.Played.{IsLedBy, IsReached, Redoes, chairs_in, core_in, file_in, history_in, opened_in}
-use Rattle.sj_seats.specs.Replaying.{IsMisfitFrom, IsMisfitHere}
+use Rattle.sj_seats.specs.Played.{IsDueFor, IsLedBy, IsReached, Redoes, chairs_in, core_in, file_in, history_in, opened_in}
+use Rattle.sj_seats.specs.Replaying.{IsDueIn, IsFoundHere, IsMisfitFrom, IsMisfitHere}
 use Rattle.sj_seats.specs.declared.played.PlayedWorld.{PlayedWorld}
 use Rattle.sj_seats.proofs.AnswerLemmas.{done_so}
 use Rattle.sj_seats.proofs.ToldLemmas.{callers_end}
@@ -34,8 +34,8 @@ led_next c d lines k x lt by redone =
 
 -- the next line isn't the one that is due
 pub misfit_from : (c : PlayedWorld) (file : FileAt) (seats : ℕ → Bool) (opened : OpenedAs) (lines : List Line) (k number : ℕ) (x : Line) (r : ReplayRefusal) → file_in c ≡ file → ((q : ℕ) → is_seat (chairs_in c) q ≡ seats q) → opened_in c ≡ opened
-    → k < length lines → number ≡ k + 1 → IsLedBy c (map line_at (take k lines)) → IsMisfitHere number (get_or lines k x) r → IsMisfitFrom file seats opened (map line_at lines) r
-misfit_from c file seats opened lines k number x (refusals.Misfit other) same who told lt count by here =
+    → k < length lines → number ≡ k + 1 → IsLedBy c (map line_at (take k lines)) → IsMisfitHere number (get_or lines k x) r → IsFoundHere c (get_or lines k x) r → IsMisfitFrom file seats opened (map line_at lines) r
+misfit_from c file seats opened lines k number x (refusals.Misfit other) same who told lt count by here due_here =
     let past : List LineAt = map line_at (take k lines) in
     record {
       before = past;
@@ -51,8 +51,16 @@ misfit_from c file seats opened lines k number x (refusals.Misfit other) same wh
             (subst (λ (cs : Callers). IsSeatsHistory max (file_in c) cs past (core_in c rest)) (λ i q. callers_by (λ r. who r i) (then_calls (told i) past rest) q) (by.run rest));
       };
       differs = λ is. here.differs (is ∙ ap (λ y. Some (line_at y)) here.line_is);
+      found = found_in other.due due_here;
     }
-misfit_from c file seats opened lines k number x refusals.NoMemory same who told lt count by here = tt
+  where
+    found_in : (o : Option Line) → IfSome o (λ l. IsDueFor c (line_at (get_or lines k x)) (line_at l)) → IfSome o (λ l. IsDueIn file opened (core_in c) (line_at other.logged) (line_at l))
+    found_in None h = tt
+    found_in (Some l) h =
+        subst (λ (m : Line). IsDueIn file opened (core_in c) (line_at m) (line_at l)) (sym here.line_is)
+        (subst (λ (o : OpenedAs). IsDueIn file o (core_in c) (line_at (get_or lines k x)) (line_at l)) told
+        (subst (λ (f : FileAt). IsDueIn f (opened_in c) (core_in c) (line_at (get_or lines k x)) (line_at l)) same h))
+misfit_from c file seats opened lines k number x refusals.NoMemory same who told lt count by here due_here = tt
 
 -- all lines are done, and become the history
 pub reached_last : (c d : PlayedWorld) (lines : List Line) (k : ℕ) → length lines ≤ k → IsLedBy c (map line_at (take k lines)) → ((past : List LineAt) → IsLedBy c past → IsLedBy d past) → history_in d ≡ map line_at lines → IsReached d

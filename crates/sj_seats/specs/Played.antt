@@ -8,9 +8,9 @@ use Rattle.sj_lang.specs.Place.{Place}
 use Rattle.sj_node.specs.declared.node.Node.{Node}
 use Rattle.sj_plain.specs.SharedFile.{file_kept}
 use Rattle.sj_rules.specs.History.{due}
-use Rattle.sj_rules.specs.Log.{LineAt}
+use Rattle.sj_rules.specs.Log.{LineAt, NoteAt}
 use Rattle.sj_rules.specs.Node.{acts}
-use Rattle.sj_rules.specs.World.{WorldAt, happens}
+use Rattle.sj_rules.specs.World.{Act, WorldAt, happens}
 use Rattle.sj_seat.specs.Places.{CarriesPlaces}
 use Rattle.sj_seat_laws.specs.Calls.{Call}
 use Rattle.sj_seat_laws.specs.SeatedPlay.{Player, seated_play}
@@ -85,6 +85,14 @@ pub record Redoes (c : PlayedWorld) (l : LineAt) (d : PlayedWorld) : Type 0 wher
   pub due_line : (rest : ℕ → List Call) → due (seated_play (file_in c)) max (core_in c (first_calls (opened_in c) l rest)) l.party l.entry.event ≡ Some l
   pub parties : HasParties d
   pub keeps : Keeps c d
+
+-- that line is due for the event of the asked one, whose call is the next one
+abbrev pub IsDueFor : PlayedWorld → (asked made : LineAt) → Type 0
+IsDueFor c asked made = (rest : ℕ → List Call) → due (seated_play (file_in c)) max (core_in c (first_calls (opened_in c) asked rest)) asked.party asked.entry.event ≡ Some made
+
+-- it is due for each act of the party that has this note
+abbrev pub IsDueOnAct : PlayedWorld → (p : ℕ) → NoteAt → (made : LineAt) → Type 0
+IsDueOnAct c p note made = (asked : LineAt) → asked.party ≡ p → asked.entry.event ≡ Act → asked.entry.note ≡ note → IsDueFor c asked made
 
 -- nothing that contracts see has changed, whatever is listed
 pub record Rests (c d : PlayedWorld) : Type 0 where

@@ -12,7 +12,7 @@ ghost use Rattle.sj_seat.specs.Places.{CarriesPlaces};
 ghost use Rattle.sj_seat.specs.Wishes.{wished};
 ghost use Rattle.sj_seat_laws.specs.SeatRows.{call_told};
 ghost use Rattle.sj_seats.specs.Calling.{Calls, Sits};
-ghost use Rattle.sj_seats.specs.Played.{IsLed, Redoes, Rests, nodes_in};
+ghost use Rattle.sj_seats.specs.Played.{IsDueOnAct, IsLed, Redoes, Rests, nodes_in};
 
 use crate::events::noted;
 use crate::played::{Chair, PlayedWorld};
@@ -107,6 +107,8 @@ impl PlayedWorld {
         requires there { party < length (nodes_in self.old) }
         ensures done { IfOk result (λ o. IfSome o (λ e. note_seen e.note ≡ note_seen note →
             Redoes self.old (line_with party e) self.new)) }
+        ensures found { IfOk result (λ o. IfSome o (λ e.
+            IsDueOnAct self.old party (note_seen note) (line_with party e))) }
         ensures none { IfOk result (λ o. IfNone o (Rests self.old self.new)) }
         ensures err { OnErr result (Rests self.old self.new) }
         ensures history { self.new.history ≡ self.old.history }

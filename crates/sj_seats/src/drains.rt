@@ -1,7 +1,7 @@
 //! Rounds of all parties, until one has no event.
 ghost use Rattle.std.specs.Prelude.{◌≡◌, ◌<◌, ◌≤◌, false, true, IfOk, OnOk, length};
 ghost use Rattle.sj_seats.specs.Core.{is_seat};
-ghost use Rattle.sj_seats.specs.Draining.{AreIdle, Goes, HasNoLane, IsQuiet, Tries};
+ghost use Rattle.sj_seats.specs.Draining.{Adds, AreIdle, Goes, HasNoLane, IsQuiet, Tries};
 ghost use Rattle.sj_seats.specs.Played.{IsEmpty, IsIdle, IsReached, IsStill, Keeps, chairs_in, history_in, nodes_in};
 
 use crate::played::PlayedWorld;
@@ -17,6 +17,7 @@ impl PlayedWorld {
         ensures tried { IfOk result (λ b. Tries b self.old self.new (IsEmpty self.new from party)) }
         ensures reached { IsReached self.new }
         ensures keeps { Keeps self.old self.new }
+        ensures adds { Adds self.old self.new }
     {
         if self.history.reserve(1).is_err() {
             return Err(NoMemory);
@@ -39,6 +40,7 @@ impl PlayedWorld {
         ensures tried { IfOk result (λ b. Tries b self.old self.new (IsStill self.new party)) }
         ensures reached { IsReached self.new }
         ensures keeps { Keeps self.old self.new }
+        ensures adds { Adds self.old self.new }
     {
         if self.history.reserve(1).is_err() {
             return Err(NoMemory);
@@ -61,6 +63,7 @@ impl PlayedWorld {
         ensures goes { OnOk result (Goes self.old self.new (IsEmpty self.new from party)) }
         ensures reached { IsReached self.new }
         ensures keeps { Keeps self.old self.new }
+        ensures adds { Adds self.old self.new }
     {
         while self.takes(party, from)? {}
         Ok(())
@@ -74,6 +77,7 @@ impl PlayedWorld {
         ensures goes { OnOk result (Goes self.old self.new (IsStill self.new party)) }
         ensures reached { IsReached self.new }
         ensures keeps { Keeps self.old self.new }
+        ensures adds { Adds self.old self.new }
     {
         while self.acts(party)? {}
         Ok(())
@@ -86,6 +90,7 @@ impl PlayedWorld {
         ensures goes { OnOk result (Goes self.old self.new (HasNoLane self.new (length (nodes_in self.new)) party)) }
         ensures reached { IsReached self.new }
         ensures keeps { Keeps self.old self.new }
+        ensures adds { Adds self.old self.new }
     {
         for from in 0..self.nodes.len() {
             self.take_all(party, from as u16)?;
@@ -109,6 +114,7 @@ impl PlayedWorld {
         ensures goes { OnOk result (Goes self.old self.new (IsStill self.new party)) }
         ensures reached { IsReached self.new }
         ensures keeps { Keeps self.old self.new }
+        ensures adds { Adds self.old self.new }
     {
         if self.is_seat(party) {
             return Ok(());
@@ -123,6 +129,7 @@ impl PlayedWorld {
         ensures goes { OnOk result (Goes self.old self.new (IsIdle self.new (length (nodes_in self.new)) party)) }
         ensures reached { IsReached self.new }
         ensures keeps { Keeps self.old self.new }
+        ensures adds { Adds self.old self.new }
     {
         self.take_each(party)?;
         self.acts_if_written(party)
@@ -134,6 +141,7 @@ impl PlayedWorld {
         ensures goes { OnOk result (Goes self.old self.new (AreIdle self.new (length (nodes_in self.new)))) }
         ensures reached { IsReached self.new }
         ensures keeps { Keeps self.old self.new }
+        ensures adds { Adds self.old self.new }
     {
         for party in 0..self.nodes.len() {
             self.turn(party as u16)?;
@@ -148,6 +156,7 @@ impl PlayedWorld {
         ensures none { IfOk result (λ b. b ≡ false → IsQuiet self.new) }
         ensures reached { IsReached self.new }
         ensures keeps { Keeps self.old self.new }
+        ensures adds { Adds self.old self.new }
     {
         let before = self.history.len();
         self.round()?;
@@ -160,6 +169,7 @@ impl PlayedWorld {
         ensures quiet { OnOk result (IsQuiet self.new) }
         ensures reached { IsReached self.new }
         ensures keeps { Keeps self.old self.new }
+        ensures adds { Adds self.old self.new }
     {
         while self.round_goes()? {}
         Ok(())

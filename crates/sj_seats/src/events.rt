@@ -4,6 +4,7 @@ ghost use Rattle.sj_core.specs.Refusals.{IsStop};
 ghost use Rattle.sj_core.specs.Views.{line_with};
 ghost use Rattle.sj_node.specs.Node.{log_of};
 ghost use Rattle.sj_node.specs.Reading.{TakesEntry};
+ghost use Rattle.sj_rules.specs.World.{Act, Deliver};
 ghost use Rattle.sj_seats.specs.Core.{is_seat};
 ghost use Rattle.sj_seats.specs.Played.{IsEmpty, IsLed, IsStill, Redoes, Rests, chairs_in, nodes_in};
 
@@ -58,6 +59,8 @@ impl PlayedWorld {
         ensures still { IfOk result (λ o. IfNone o (IsStill self.old party)) }
         ensures err { OnErr result (Rests self.old self.new) }
         ensures history { self.new.history ≡ self.old.history }
+        ensures chairs { chairs_in self.new ≡ chairs_in self.old }
+        ensures event { IfOk result (λ o. IfSome o (λ e. (line_with party e).entry.event ≡ Act)) }
     {
         let node = &mut self.nodes[party as usize];
         match node.act() {
@@ -77,6 +80,8 @@ impl PlayedWorld {
         ensures empty { IfOk result (λ o. IfNone o (IsEmpty self.old from party)) }
         ensures err { OnErr result (Rests self.old self.new) }
         ensures history { self.new.history ≡ self.old.history }
+        ensures chairs { chairs_in self.new ≡ chairs_in self.old }
+        ensures event { IfOk result (λ o. IfSome o (λ e. (line_with party e).entry.event ≡ Deliver from)) }
     {
         let Some(frame) = self.nodes[from as usize].take_out(party) else {
             return Ok(None);

@@ -1,5 +1,5 @@
 //! Sessions that parties open which are played by code, as lines tell them.
-ghost use Rattle.std.specs.Prelude.{◌≡◌, ◌<◌, IfNone, IfOk, IfSome, OnErr, length};
+ghost use Rattle.std.specs.Prelude.{◌≡◌, ◌<◌, IfNone, IfOk, IfSome, OnErr, Some, length};
 ghost use Rattle.sj_core.specs.Views.{line_with};
 ghost use Rattle.sj_end.specs.Lines.{note_seen};
 ghost use Rattle.sj_node.specs.Calls.{place_here};
@@ -10,10 +10,12 @@ ghost use Rattle.sj_seat.specs.Asked.{IsOpenable};
 ghost use Rattle.sj_seat.specs.Holding.{ends_at};
 ghost use Rattle.sj_seat.specs.Opened.{openings_at};
 ghost use Rattle.sj_seat.specs.Places.{CarriesPlaces};
+ghost use Rattle.sj_seat.specs.Wishes.{open_wished};
+ghost use Rattle.sj_seat_laws.specs.SeatRows.{call_told};
 ghost use Rattle.sj_seats.specs.Calling.{OpensOne, OpensSo, Sits, protocol_asked};
 ghost use Rattle.sj_seats.specs.Calls.{end_in};
 ghost use Rattle.sj_seats.specs.Openings.{opened_by, protocol_in};
-ghost use Rattle.sj_seats.specs.Played.{IsLed, Redoes, Rests, nodes_in};
+ghost use Rattle.sj_seats.specs.Played.{IsDueOnAct, IsLed, Redoes, Rests, nodes_in};
 
 use crate::calls::ALL_TEXTS;
 use crate::events::noted;
@@ -48,8 +50,10 @@ fn protocol_of(opened: &[Vec<OpenedSession>], party: u16, end: EndId) -> u16
 
 /// The session that a code asked for whose act has that note; none for what opens none.
 fn open_wish_of(opened: &[Vec<OpenedSession>], party: u16, note: Note) -> Option<OpenWish>
-    ensures { IfSome result (λ w. protocol_asked w
+    ensures protocol { IfSome result (λ w. protocol_asked w
         ≡ opened_by opened.now party (end_in (note_seen note))) }
+    ensures tells { IfSome result (λ w.
+        call_told (protocol_asked w) (note_seen note) ≡ Some (open_wished w)) }
 {
     match note {
         Note::Request { sess, to } => Some(OpenWish::Request {
@@ -134,6 +138,8 @@ impl PlayedWorld {
         requires there { party < length (nodes_in self.old) }
         ensures done { IfOk result (λ o. IfSome o (λ e. note_seen e.note ≡ note_seen note →
             Redoes self.old (line_with party e) self.new)) }
+        ensures found { IfOk result (λ o. IfSome o (λ e.
+            IsDueOnAct self.old party (note_seen note) (line_with party e))) }
         ensures none { IfOk result (λ o. IfNone o (Rests self.old self.new)) }
         ensures err { OnErr result (Rests self.old self.new) }
         ensures history { self.new.history ≡ self.old.history }

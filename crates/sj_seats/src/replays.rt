@@ -4,8 +4,8 @@ ghost use Rattle.sj_core.specs.Nodes.{ComesFrom};
 ghost use Rattle.sj_core.specs.Views.{line_at, line_with};
 ghost use Rattle.sj_end.specs.Lines.{note_seen};
 ghost use Rattle.sj_seats.specs.Core.{is_seat};
-ghost use Rattle.sj_seats.specs.Played.{IsLed, IsReached, Keeps, Redoes, chairs_in, file_in, history_in, nodes_in, opened_in};
-ghost use Rattle.sj_seats.specs.Replaying.{IsMisfitFrom, IsMisfitHere};
+ghost use Rattle.sj_seats.specs.Played.{IsDueFor, IsLed, IsReached, Keeps, Redoes, chairs_in, file_in, history_in, nodes_in, opened_in};
+ghost use Rattle.sj_seats.specs.Replaying.{IsFoundHere, IsMisfitFrom, IsMisfitHere};
 
 use crate::played::PlayedWorld;
 use sj_base::NoMemory;
@@ -36,6 +36,8 @@ impl PlayedWorld {
         requires origin { ComesFrom line.now.entry.event (length (nodes_in self.old)) }
         ensures done { IfOk result (λ o. IfSome o (λ e. note_seen e.note ≡ note_seen line.now.entry.note →
             Redoes self.old (line_with line.now.party e) self.new)) }
+        ensures found { IfOk result (λ o. IfSome o (λ e.
+            IsDueFor self.old (line_at line.now) (line_with line.now.party e))) }
     {
         match line.entry.event {
             Event::Deliver(from) => self.deliver(line.party, from),
@@ -55,6 +57,7 @@ impl PlayedWorld {
         requires led { IsLed self.old }
         ensures done { IfOk result (λ o. IfSome o (λ l. l ≡ line.now →
             Redoes self.old (line_at l) self.new)) }
+        ensures found { IfOk result (λ o. IfSome o (λ l. IsDueFor self.old (line_at line.now) (line_at l))) }
     {
         if !self.is_there(line.party, line.entry.event) {
             return Ok(None);
@@ -74,6 +77,7 @@ impl PlayedWorld {
         requires led { IsLed self.old }
         ensures ok { OnOk result (Redoes self.old (line_at line.now) self.new) }
         ensures misfit { IfErr result (IsMisfitHere number line.now) }
+        ensures found { IfErr result (IsFoundHere self.old line.now) }
     {
         let due = self.made_line(line)?;
         if is_the_line(&due, line) {

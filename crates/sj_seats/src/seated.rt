@@ -11,6 +11,7 @@ ghost use Rattle.sj_rules.specs.History.{IsQuietAmong};
 ghost use Rattle.sj_seat.specs.Places.{CarriesPlaces};
 ghost use Rattle.sj_seat_laws.specs.SeatedPlay.{seated_play};
 ghost use Rattle.sj_seat_told_laws.specs.SeatsHistory.{IsSeatsHistory};
+ghost use Rattle.sj_seats.specs.Draining.{IsPrefix};
 ghost use Rattle.sj_seats.specs.Openings.{opened_by};
 ghost use Rattle.sj_seats.specs.Replaying.{IsMisfitFrom};
 ghost use Rattle.sj_table.specs.Spots.{start_in};
@@ -70,6 +71,9 @@ impl SeatedWorld {
         ensures history { IfOk result (λ w. history_of w ≡ []) }
         ensures seats { IfOk result (λ w. (q : ℕ) → seats_of w q ≡ seat_in seats.now q) }
 
+        // A session that a code opened counts as protocol 0.
+        ensures opened { IfOk result (λ w. (q : ℕ) (e : EndId) → opened_of w q e ≡ 0) }
+
         // What is true of every world.
         ensures run { IfOk result (λ w. IsSeatsHistory max (kept_file w) (callers_of w) (history_of w) (core_of w)) }
         ensures parties { IfOk result (λ w. party_count w ≡ length (kept_file w).parties) }
@@ -122,6 +126,12 @@ impl SeatedWorld {
     pub fn drain(&mut self) -> Result<(), NoMemory>
         // Nothing is left to do.
         ensures quiet { OnOk result (IsQuietAmong (seated_play (kept_file self.new)) (party_count self.new) (core_of self.new)) }
+
+        // Lines are only added. No code makes a call, and each holds what it held.
+        ensures grows { IsPrefix (history_of self.old) (history_of self.new) }
+        ensures callers { callers_of self.new ≡ callers_of self.old }
+        ensures ends { (q : ℕ) → ends_of self.new q ≡ ends_of self.old q }
+        ensures calls { (q : ℕ) → calls_of self.new q ≡ calls_of self.old q }
 
         // What is true of every world, and what no event changes.
         ensures run { IsSeatsHistory max (kept_file self.new) (callers_of self.new) (history_of self.new) (core_of self.new) }

@@ -1,4 +1,4 @@
-use Rattle.std.proofs.Common.{◌≡◌, ◌∷◌, ◌++◌, [], ◌∙◌, Some, ap, refl, subst, sym}
+use Rattle.std.proofs.Common.{◌∷◌, ◌++◌, [], ◌∙◌, Some, ap, refl, subst, sym}
 use Rattle.sj_seat.specs.Holding.{ends_at}
 use Rattle.sj_seat_laws.specs.Guards.{with_opened}
 use Rattle.sj_table.specs.declared.table.Table.{Table}

@@ -1,10 +1,11 @@
 use Rattle.std.proofs.Common.{Err, ap, length, refl, ◌∙◌}
 use Rattle.std.proofs.lemmas.Option.{slice_get_read}
+use Rattle.sj_end.specs.declared.note.Event.TheVariants as events
 use Rattle.sj_core.proofs.StepLemmas.{acted_as, rests}
 use Rattle.sj_seats.proofs.AnswerLemmas.{if_error, if_none, none_done, ok_none}
 use Rattle.sj_seats.proofs.ChairLemmas.{over_set, table_done}
 use Rattle.sj_seats.proofs.DrainLemmas.{still_where}
-use Rattle.sj_seats.proofs.GoingLemmas.{act_redoes, rests_by}
+use Rattle.sj_seats.proofs.GoingLemmas.{act_redoes, moved_event, rests_by}
 use Rattle.sj_core.proofs.StopLemmas.{error_is}
 use Rattle.sj_seats.proofs.RunLemmas.{low_node}
 use Rattle.sj_seats.proofs.UnfitLemmas.{not_unfit}
@@ -76,3 +77,16 @@ stopped-requires c =
     λ unfit. not_unfit self led.past led.led c.args.party old there c.requires.own c.in-Err.halt
     (λ h. error_is _ _ (c.in-Err.ensures.ended.1 h)) (λ h. error_is _ _ (c.in-Err.ensures.at_limit.1 h)) (λ h. error_is _ _ (c.in-Err.ensures.waits.1 h))
     (λ h. c.in-Err.ensures.unfit (ap Err h)) unfit
+
+pub returns-in-Ok-clause-event : goal.returns-in-Ok-clause-event
+returns-in-Ok-clause-event c =
+    let self = c.args.self.now in
+    let nodes = self.nodes.items in
+    let old = c.index_mut-node.result.now in
+    let parties = c.requires.led.led.parties in
+    let there = slice_get_read nodes (length nodes) c.args.party old refl c.requires.there c.index_mut-node.ensures.value in
+    moved_event (file_in self) nodes c.args.party events.Act c.noted.result _
+    (acted_as (file_in self) nodes c.args.party old c.noted.new.node parties.seats there c.act.new.self c.noted.result c.noted.ensures.rest c.noted.ensures.entry c.in-Ok.ensures.ok)
+
+pub returns-in-Err-clause-event : goal.returns-in-Err-clause-event
+returns-in-Err-clause-event c = none_done c.stopped.result _ c.stopped.ensures.none

@@ -5,11 +5,12 @@ use Rattle.std.proofs.Math.ListN.{set}
 use Rattle.sj_end.specs.Views.{frame_at}
 use Rattle.sj_node.specs.Outs.{waiting_in}
 use Rattle.sj_node.specs.Reading.{outs_of}
+use Rattle.sj_end.specs.declared.note.Event.TheVariants as events
 use Rattle.sj_core.proofs.DeliverLemmas.{delivered_as, lane_is, low_now, not_unfit}
 use Rattle.sj_core.proofs.PutBackLemmas.{nothing_taken, put_back, refused_so}
 use Rattle.sj_seats.proofs.ChairLemmas.{over_set, table_done}
 use Rattle.sj_seats.proofs.DrainLemmas.{nothing_waits}
-use Rattle.sj_seats.proofs.GoingLemmas.{delivery_redoes, rests_by}
+use Rattle.sj_seats.proofs.GoingLemmas.{delivery_redoes, moved_event, rests_by}
 use Rattle.sj_seats.proofs.RunLemmas.{front_comes, low_clock}
 use Rattle.sj_seats.specs.Played.{file_in}
 use Rattle.sj_seats.proofs.played.PlayedWorld.deliver.Goals as goal
@@ -108,3 +109,18 @@ without_memory-requires c =
     let arrived = front_comes self led.past led.led c.args.party c.args.from _ _ lane in
     λ unfit. not_unfit (file_in self) nodes c.args.party c.args.from giver short c.in-Some.frame led.led.parties.seats there c.in-Some.ensures.some c.take_out.ensures.others c.take_out.ensures.rest
     old old here arrived.0 arrived.1 (refused_so c.in-Err.refusal _ unfit c.in-Err.ensures.unfit)
+
+pub returns-in-Ok-clause-event : goal.returns-in-Ok-clause-event
+returns-in-Ok-clause-event c =
+    let self = c.args.self.now in
+    let nodes = self.nodes.items in
+    let giver = c.index_mut.result.now in
+    let short = c.take_out.new.self in
+    let old = c.index_mut-node.result.now in
+    let parties = c.requires.led.led.parties in
+    let there = slice_get_read nodes (length nodes) c.args.from giver refl c.requires.origin c.index_mut.ensures.value in
+    let here = slice_get_read (set nodes c.args.from short) (length nodes) c.args.party old (sym (length-set nodes c.args.from short)) c.requires.there c.index_mut-node.ensures.value in
+    moved_event (file_in self) nodes c.args.party (events.Deliver c.args.from) c.noted.result _
+    (delivered_as (file_in self) nodes c.args.party c.args.from giver short c.in-Some.frame parties.seats there
+    c.in-Some.ensures.some c.take_out.ensures.others c.take_out.ensures.rest
+    old c.noted.new.node here c.deliver.new.self c.noted.result c.noted.ensures.rest c.noted.ensures.entry c.in-Ok.ensures.ok)

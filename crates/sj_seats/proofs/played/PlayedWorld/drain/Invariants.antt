@@ -1,4 +1,4 @@
-use Rattle.sj_seats.specs.Draining.{events_left}
+use Rattle.sj_seats.specs.Draining.{Adds, events_left}
 use Rattle.sj_seats.specs.Played.{IsReached, Keeps}
 use Rattle.sj_seats.proofs.played.PlayedWorld.drain.Given as goal
 
@@ -6,6 +6,7 @@ abbrev pub invariant-loop : goal.invariant-loop
 invariant-loop l = record {
   reached : IsReached l.self;
   keeps : Keeps l.fn.self l.self;
+  adds : Adds l.fn.self l.self;
 }
 
 abbrev pub decreases-loop : goal.decreases-loop

@@ -2,7 +2,7 @@ use Rattle.std.proofs.Common.{◌≤◌, ◌<◌, ◌+◌, length, refl, subst, 
 use Rattle.sj_core.specs.Views.{line_at}
 use Rattle.sj_end.specs.declared.note.Line.{Line}
 use Rattle.sj_seats.specs.Played.{Redoes, file_in}
-use Rattle.sj_seats.specs.Replaying.{IsMisfitHere}
+use Rattle.sj_seats.specs.Replaying.{IsFoundHere, IsMisfitHere}
 use Rattle.sj_seats.specs.Core.{is_seat}
 use Rattle.sj_seats.specs.Played.{chairs_in, opened_in}
 use Rattle.sj_seats.specs.declared.played.PlayedWorld.{PlayedWorld}
@@ -33,6 +33,7 @@ returns-in-Err-clause-misfit c =
     let lt : c.loop-done.done < length c.args.lines.items = omega (arith, c.loop-done-test.true, c.len-done-end.ensures, same) in
     misfit_from c.loop-done.self (file_in c.args.self) (is_seat (chairs_in c.args.self)) (opened_in c.args.self) c.args.lines.items c.loop-done.done (c.loop-done.done + 1) c.index.result.now c.in-Err.refusal kept.keeps.file kept.keeps.seats kept.keeps.opened lt refl kept.led
     (subst (λ (l : Line). IsMisfitHere (c.loop-done.done + 1) l c.in-Err.refusal) c.index.ensures c.in-Err.ensures.misfit)
+    (subst (λ (l : Line). IsFoundHere c.loop-done.self l c.in-Err.refusal) c.index.ensures c.in-Err.ensures.found)
 
 pub returns-clause-reached : goal.returns-clause-reached
 returns-clause-reached c =

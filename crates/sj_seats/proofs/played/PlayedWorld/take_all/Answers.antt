@@ -1,8 +1,9 @@
 use Rattle.sj_seats.proofs.played.PlayedWorld.take_all.Goals as goal
+use Rattle.sj_seats.proofs.AddedLemmas.{adds_later, adds_none}
 use Rattle.sj_seats.proofs.DrainLemmas.{fewer_left, goes_more, goes_none, goes_over, keeps_later, keeps_none, tried_none, tried_some}
 
 pub loop-init : goal.loop-init
-loop-init c = record { reached = c.requires.reached; keeps = keeps_none c.args.self.now; goes = goes_none c.args.self.now c.requires.reached.parties }
+loop-init c = record { reached = c.requires.reached; keeps = keeps_none c.args.self.now; adds = adds_none c.args.self.now; goes = goes_none c.args.self.now c.requires.reached.parties }
 
 pub loop-smaller : goal.loop-smaller
 loop-smaller c = fewer_left c.loop.self c.takes.new.self c.takes.ensures.reached (tried_some _ c.loop.self c.takes.new.self _ c.if-branch.true c.in_ok-takes.ensures.tried)
@@ -13,6 +14,7 @@ loop-preserved c =
     record {
       reached = c.takes.ensures.reached;
       keeps = keeps_later c.args.self.now c.loop.self c.takes.new.self kept.keeps c.takes.ensures.keeps;
+      adds = adds_later c.args.self.now c.loop.self c.takes.new.self kept.keeps kept.adds c.takes.ensures.adds;
       goes = goes_more c.args.self.now c.loop.self c.takes.new.self kept.goes (tried_some _ c.loop.self c.takes.new.self _ c.if-branch.true c.in_ok-takes.ensures.tried);
     }
 

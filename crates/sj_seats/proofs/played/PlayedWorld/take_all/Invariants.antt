@@ -1,5 +1,5 @@
 use Rattle.std.specs.Prelude.{⊤}
-use Rattle.sj_seats.specs.Draining.{Goes, events_left}
+use Rattle.sj_seats.specs.Draining.{Adds, Goes, events_left}
 use Rattle.sj_seats.specs.Played.{IsReached, Keeps}
 use Rattle.sj_seats.proofs.played.PlayedWorld.take_all.Given as goal
 
@@ -7,6 +7,7 @@ abbrev pub invariant-loop : goal.invariant-loop
 invariant-loop l = record {
   reached : IsReached l.self;
   keeps : Keeps l.fn.self l.self;
+  adds : Adds l.fn.self l.self;
   goes : Goes l.fn.self l.self ⊤;
 }
 

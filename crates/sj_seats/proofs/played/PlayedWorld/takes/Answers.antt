@@ -1,7 +1,9 @@
-use Rattle.std.proofs.Common.{◌++◌, ◌∷◌, [], map, ap, refl, ◌∙◌}
+use Rattle.std.proofs.Common.{◌≡◌, ◌++◌, ◌∷◌, [], map, ap, refl, ◌∙◌}
 use Rattle.sj_core.specs.Views.{line_at, line_with}
 use Rattle.sj_end.specs.declared.note.Line.{Line}
 use Rattle.sj_core.proofs.ReachedLemmas.{listed_more}
+use Rattle.sj_rules.specs.World.{Deliver}
+use Rattle.sj_seats.proofs.AddedLemmas.{adds_one, adds_still, delivery_tells}
 use Rattle.sj_seats.proofs.DrainLemmas.{empty_still}
 use Rattle.sj_seats.proofs.GoingLemmas.{led}
 use Rattle.sj_seats.proofs.ListingLemmas.{done_listed, none_is, none_listed, one_longer, reached_listed, rests_after, some_is}
@@ -63,3 +65,21 @@ returns-in-Err-clause-reached c =
     let mid : PlayedWorld = record { alloc = self.alloc; kept = self.kept; table = self.table; nodes = self.nodes; chairs = self.chairs; opened = self.opened; history = c.reserve.new.self } in
     none_listed self mid c.requires.reached (record { file = refl; table = refl; nodes = refl; chairs = refl; opened = refl }) (ap (map line_at) c.reserve.ensures.items) c.deliver.new.self c.in-Err.ensures.err
     (ap (λ v. map line_at v.items) c.deliver.ensures.history ∙ ap (map line_at) c.reserve.ensures.items)
+
+pub returns-then-is_err-clause-adds : goal.returns-then-is_err-clause-adds
+returns-then-is_err-clause-adds c = adds_still c.args.self.now _ (ap (map line_at) c.reserve.ensures.items) refl
+
+pub returns-in-Ok-Some-clause-adds : goal.returns-in-Ok-Some-clause-adds
+returns-in-Ok-Some-clause-adds c =
+    let self = c.args.self.now in
+    let l : Line = record { party = c.args.party; entry = c.in-Ok-Some.entry } in
+    adds_one self _ (line_at l)
+    (listed_more self.history.items c.push_reserved.new.self.items l
+    (c.push_reserved.ensures.items ∙ ap (λ v. v.items ++ l ∷ []) c.deliver.ensures.history ∙ ap (λ t. t ++ l ∷ []) c.reserve.ensures.items))
+    c.deliver.ensures.chairs (delivery_tells self (line_at l) c.args.from (some_is c.in-Ok-Some.field-0 c.in-Ok-Some.entry (λ e. (line_with c.args.party e).entry.event ≡ Deliver c.args.from) c.in-Ok-Some.field-0-is c.in-Ok-Some.ensures.event))
+
+pub returns-in-Ok-None-clause-adds : goal.returns-in-Ok-None-clause-adds
+returns-in-Ok-None-clause-adds c = adds_still c.args.self.now c.deliver.new.self (ap (λ v. map line_at v.items) c.deliver.ensures.history ∙ ap (map line_at) c.reserve.ensures.items) c.deliver.ensures.chairs
+
+pub returns-in-Err-clause-adds : goal.returns-in-Err-clause-adds
+returns-in-Err-clause-adds c = adds_still c.args.self.now c.deliver.new.self (ap (λ v. map line_at v.items) c.deliver.ensures.history ∙ ap (map line_at) c.reserve.ensures.items) c.deliver.ensures.chairs
