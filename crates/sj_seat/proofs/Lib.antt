@@ -9,6 +9,7 @@ mod HoldingLemmas
 mod IdleLemmas
 mod KindLemmas
 mod LastLemmas
+mod LookedLemmas
 mod MovedLemmas
 mod OpeningLemmas
 mod PickLemmas

@@ -6,6 +6,7 @@ pub mod Holding
 pub mod Holdings
 pub mod Kinds
 pub mod Logged
+pub mod Looked
 pub mod NodeOpening
 pub mod Opened
 pub mod Places

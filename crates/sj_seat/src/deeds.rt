@@ -10,6 +10,7 @@ ghost use Rattle.sj_rules.specs.Limits.{clock_end, limit_of_steps};
 ghost use Rattle.sj_seat.specs.Asked.{asked, want_opening};
 ghost use Rattle.sj_seat.specs.Counted.{Counted};
 ghost use Rattle.sj_seat.specs.Logged.{OpenedLast, TellsTaken, last_act};
+ghost use Rattle.sj_seat.specs.Looked.{LookedAt};
 ghost use Rattle.sj_seat.specs.Went.{HasNoRow, IsHaltOf, Keeps, SeatWork, held_up, lasting};
 ghost use Rattle.sj_seat_laws.specs.Calls.{SeatedAt};
 ghost use Rattle.sj_seat_laws.specs.Guards.{called, opened, seated_want};
@@ -38,6 +39,7 @@ pub(crate) fn deliver<O: OutLane, I: InLane, G: Gate>(worker: &mut Worker<O, I>,
     ensures counts { Counted O.OutLane I.InLane worker.old worker.new }
     ensures stop { stop_of worker.new ≡ Some result }
     ensures ended { result ≡ Stop.ClockEnd → clock_end ≤ clock_of (node_of worker.new) }
+    ensures looked { lasting result ≡ None → LookedAt I.InLane 1 worker.old worker.new }
 {
     attend(worker, gate)
 }

@@ -1,10 +1,11 @@
 //! Ends on which a message is there, and a take from the first of several.
-ghost use Rattle.std.specs.Prelude.{◌≡◌, ◌∷◌, IfErr, IfOk, IfSome, List, None, OnErr, OnOk, Some, is_some, length, true};
+ghost use Rattle.std.specs.Prelude.{◌≡◌, ◌∷◌, IfErr, IfOk, IfSome, List, None, OnErr, OnOk, Some, false, is_some, length, true};
 ghost use Rattle.sj_lang.specs.FileAt.{FileAt};
 ghost use Rattle.sj_node.specs.Node.{Stays, next_head};
 ghost use Rattle.sj_node.specs.Reading.{parties_of};
 ghost use Rattle.sj_seat.specs.Counted.{Counted};
 ghost use Rattle.sj_seat.specs.Logged.{TookLast};
+ghost use Rattle.sj_seat.specs.Looked.{LookedAt};
 ghost use Rattle.sj_seat.specs.Ready.{IsAnyRefused, IsCutShort, IsNoneTaken, IsReadyRefused, IsUnseen, TookFirst, any_rule, first_there, ready_rule};
 ghost use Rattle.sj_seat.specs.Rules.{first_refusal, take_tests};
 ghost use Rattle.sj_seat.specs.Views.{calls_of, ends_of, node_of, worker_of};
@@ -21,6 +22,8 @@ impl<O: OutLane, I: InLane, G: Gate> Guest<'_, O, I, G> {
     /// is delivered first.
     pub fn ready(&mut self, end: EndId) -> Result<bool, SeatRefusal>
         ensures there { IfOk result (λ b. b ≡ is_some (next_head (node_of self.new) end)) }
+        ensures looked { IfOk result (λ b. b ≡ false →
+            LookedAt I.InLane 1 (worker_of self.old) (worker_of self.new)) }
 
         // The code calls nothing, whatever it calls later.
         ensures went { (file : FileAt) (rest : List calls.Call) →
@@ -45,6 +48,8 @@ impl<O: OutLane, I: InLane, G: Gate> Guest<'_, O, I, G> {
     // The same of any end.
     fn look(&mut self, end: EndId) -> Result<bool, SeatRefusal>
         ensures there { IfOk result (λ b. b ≡ is_some (next_head (node_of self.new) end)) }
+        ensures looked { IfOk result (λ b. b ≡ false →
+            LookedAt I.InLane 1 (worker_of self.old) (worker_of self.new)) }
         ensures went { (file : FileAt) (rest : List calls.Call) →
             length file.parties ≡ parties_of (node_of self.old) →
             Went O.OutLane I.InLane file rest rest self.old self.new }

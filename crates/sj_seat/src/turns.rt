@@ -9,6 +9,7 @@ ghost use Rattle.sj_rules.specs.Limits.{clock_end};
 ghost use Rattle.sj_seat.specs.Asked.{IsGuarded, asked};
 ghost use Rattle.sj_seat.specs.Counted.{Counted};
 ghost use Rattle.sj_seat.specs.Logged.{TellsTaken, last_act};
+ghost use Rattle.sj_seat.specs.Looked.{LookedAt};
 ghost use Rattle.sj_seat.specs.Views.{calls_of, ends_of, may_of, node_of, table_of, worker_of};
 ghost use Rattle.sj_seat.specs.Went.{IsHalt, IsHeldUp, IsStopped, Keeps, Rests, SameBounds, Went};
 ghost use Rattle.sj_seat_laws.specs.Calls as calls;
@@ -39,6 +40,7 @@ impl<O: OutLane, I: InLane, G: Gate> Guest<'_, O, I, G> {
         ensures counts { Counted O.OutLane I.InLane (worker_of self.old) (worker_of self.new) }
         ensures none { result ≡ None → kept_stop (stop_of (worker_of self.new)) ≡ None }
         ensures some { IfSome result (λ s. IsStopped s self.new) }
+        ensures looked { result ≡ None → LookedAt I.InLane 1 (worker_of self.old) (worker_of self.new) }
     {
         for_good(deliver(&mut self.worker, self.gate))
     }

@@ -12,3 +12,6 @@ pub returns-clause-some : goal.returns-clause-some
 returns-clause-some g c =
     let b = c.deliver.new.worker in
     subst (λ (o : Option Stop). IfSome o (IsStoppedAt b)) (sym c.for_good.ensures) (stopped_so b c.deliver.result c.deliver.ensures.stop c.deliver.ensures.ended)
+
+pub returns-clause-looked : goal.returns-clause-looked
+returns-clause-looked g c = λ is. c.deliver.ensures.looked (sym c.for_good.ensures ∙ is)
