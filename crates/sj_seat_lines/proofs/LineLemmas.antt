@@ -1,10 +1,11 @@
 -- The first line of what is left, read byte by byte.
-use Rattle.std.proofs.Common.{◌≡◌, ◌≤◌, IfSome, ℕ, List, [], ◌∷◌, ◌++◌, length, take, Option, Some, None, option_map, refl, ap, sym, ◌∙◌, append_assoc, append-nil, take_all, if◌then◌else◌, Bool, true, false, nat_lt, arith}
+use Rattle.std.proofs.Common.{◌≡◌, ◌≢◌, ◌≤◌, IfSome, ℕ, List, [], ◌∷◌, ◌++◌, length, take, Option, Some, None, option_map, refl, ap, subst, sym, ◌∙◌, append_assoc, append-nil, take_all, if◌then◌else◌, Bool, true, false, nat_lt, arith}
 use Rattle.std.specs.Prelude.{◌==◌}
 use Rattle.std.proofs.lemmas.List.{take-append-le}
 use Rattle.std.proofs.lemmas.Grind.{common_steps}
 use Rattle.sj_base.specs.Stream.{put_before}
-use Rattle.sj_seat_lines.specs.Reading.{IsNextLine, after_line, first_line, newline, with_byte}
+use Rattle.sj_base.proofs.PieceLemmas.{put_before-append, put_before-nil}
+use Rattle.sj_seat_lines.specs.Reading.{IsLeftOf, IsNextLine, after_line, first_line, newline, with_byte}
 
 -- the first line that starts with these bytes, up to so many
 abbrev pub line_from : ℕ → List ℕ → Option (List ℕ) → Option (List ℕ)
@@ -22,6 +23,34 @@ so_far_none most o = record { text = refl; rest = refl }
 abbrev or_else : List ℕ → Option (List ℕ) → List ℕ
 or_else other None = other
 or_else other (Some bytes) = bytes
+
+-- ---- whether a byte came
+
+-- no byte came yet, or some did
+abbrev pub IsBegun : Bool → Option (List ℕ) → Option (List ℕ) → Type 0
+IsBegun false old now = old ≡ now
+IsBegun true old now = (b : ℕ) × (taken : List ℕ) × (old ≡ put_before (b ∷ taken) now)
+
+pub begun_on : (begun : Bool) (b : ℕ) (old now new : Option (List ℕ)) → now ≡ put_before (b ∷ []) new → IsBegun begun old now → IsBegun true old new
+begun_on false b old now new e h = (b, [], h ∙ e)
+begun_on true b old now new e h = (h.0, h.1 ++ b ∷ [], h.2 ∙ ap (put_before (h.0 ∷ h.1)) e ∙ put_before-append (h.0 ∷ h.1) (b ∷ []) new)
+
+put_some : (b : ℕ) (taken : List ℕ) (o : Option (List ℕ)) → IfSome (put_before (b ∷ taken) o) (λ bs. bs ≢ [])
+put_some b taken None = tt
+put_some b taken (Some r) = λ e. absurd (cc)
+
+-- then something was left
+pub begun_some : (old now : Option (List ℕ)) → IsBegun true old now → IfSome old (λ bs. bs ≢ [])
+begun_some old now h = subst (λ o. IfSome o (λ bs. bs ≢ [])) (sym h.2) (put_some h.0 h.1 now)
+
+-- and bytes of that came
+pub begun_left : (begun : Bool) (old now new : Option (List ℕ)) → new ≡ now → IsBegun begun old now → IsLeftOf old new
+begun_left false old now new e h = ([], h ∙ sym e ∙ put_before-nil new)
+begun_left true old now new e h = (h.0 ∷ h.1, h.2 ∙ ap (put_before (h.0 ∷ h.1)) (sym e))
+
+some_both : (P Q : List ℕ → Type 0) (o : Option (List ℕ)) → IfSome o P → IfSome o Q → IfSome o (λ bs. P bs × Q bs)
+some_both P Q None p q = tt
+some_both P Q (Some bs) p q = (p, q)
 
 -- ---- one more byte
 
@@ -87,9 +116,9 @@ module _ (most : ℕ) (line : List ℕ) (within : length line ≤ most) where
   newline_goes b is None = refl
   newline_goes b is (Some r) = ap (λ (c : Bool). Some (if c then r else after_line r)) (sym is)
 
-  pub at_newline : (b : ℕ) → (b == newline) ≡ true → (old now new : Option (List ℕ)) → now ≡ put_before (b ∷ []) new → IsSoFar most old line now → IsNextLine most old line new
-  at_newline b is old now new e s = (
-    line_is old now (ap (λ o. or_else line (line_from most line o)) e ∙ newline_ends b is new) s,
+  pub at_newline : (begun : Bool) (b : ℕ) → (b == newline) ≡ true → (old now new : Option (List ℕ)) → now ≡ put_before (b ∷ []) new → IsBegun begun old now → IsSoFar most old line now → IsNextLine most old line new
+  at_newline begun b is old now new e h s = (
+    some_both (λ bs. bs ≢ []) (λ bs. line ≡ take most (first_line bs)) old (begun_some old new (begun_on begun b old now new e h)) (line_is old now (ap (λ o. or_else line (line_from most line o)) e ∙ newline_ends b is new) s),
     newline_goes b is new ∙ ap (option_map after_line) (sym e) ∙ s.rest,
   )
 
@@ -101,5 +130,8 @@ module _ (most : ℕ) (line : List ℕ) (within : length line ≤ most) where
   nothing_goes None none = refl
   nothing_goes (Some r) none = ap Some none ∙ sym (ap (λ bs. Some (after_line bs)) none)
 
-  pub at_end : (old now new : Option (List ℕ)) → IfSome now (λ bs. bs ≡ []) → new ≡ now → IsSoFar most old line now → IsNextLine most old line new
-  at_end old now new none e s = (line_is old now (nothing_ends now none) s, e ∙ nothing_goes now none ∙ s.rest)
+  pub at_end : (old now new : Option (List ℕ)) → IfSome now (λ bs. bs ≡ []) → new ≡ now → IsBegun true old now → IsSoFar most old line now → IsNextLine most old line new
+  at_end old now new none e h s = (
+    some_both (λ bs. bs ≢ []) (λ bs. line ≡ take most (first_line bs)) old (begun_some old now h) (line_is old now (nothing_ends now none) s),
+    e ∙ nothing_goes now none ∙ s.rest,
+  )

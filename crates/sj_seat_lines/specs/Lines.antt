@@ -8,6 +8,7 @@ use Rattle.sj_seat_lines.specs.Heard.{HeardAt, came, heard_of}
 use Rattle.sj_seat_lines.specs.Party.{AskAt, PartyAt, SeatAt, asked_of, counted, party_at}
 use Rattle.sj_seat_lines.specs.Reading.{IsNextLine, left_of}
 use Rattle.sj_seat_lines.specs.Settled.{settled_of}
+use Rattle.sj_seat_lines.specs.declared.lines.Ended.{Ended}
 use Rattle.sj_seat_lines.specs.declared.lines.Lines.{Lines}
 use Rattle.sj_seat_lines.specs.declared.party.Heard.TheVariants.{Asks, Answered, Left}
 
@@ -19,6 +20,10 @@ pub record LinesAt : Type 0 where
 
 abbrev pub lines_at : {S K : Type 0} → (S → Option (List ℕ)) → (K → Option (List ℕ)) → Lines S K → LinesAt
 lines_at left written l = record { party = party_at l.party; left = left_of left l.lines; written = written l.sink }
+
+-- how the lines ended, where they have
+abbrev pub ended_of : {S K : Type 0} → Lines S K → Option Ended
+ended_of l = l.ended
 
 -- a party, that is left of its lines, and that was written
 abbrev pub lines_from : PartyAt → Option (List ℕ) → Option (List ℕ) → LinesAt

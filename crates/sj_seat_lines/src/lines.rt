@@ -1,10 +1,10 @@
 //! A party's code that reads lines, and writes their answers.
 #![tactic(auto, using(sj_base::proofs::PieceLemmas::whole))]
 
-ghost use Rattle.std.specs.Prelude.{◌≡◌, ◌+◌, [], List, ℕ, IfOk, IfSome, OnOk, Some, option_map};
+ghost use Rattle.std.specs.Prelude.{◌≡◌, ◌+◌, [], List, ℕ, IfOk, IfSome, None, OnOk, Some, option_map};
 ghost use Rattle.sj_seat_lines.specs.Forms.{most_line};
 ghost use Rattle.sj_seat_lines.specs.Heard.{came};
-ghost use Rattle.sj_seat_lines.specs.Lines.{Goes, GoesOn, IsAnswered, asks_by, heard_in, line_heard, lines_at, lines_from};
+ghost use Rattle.sj_seat_lines.specs.Lines.{Goes, GoesOn, IsAnswered, asks_by, ended_of, heard_in, line_heard, lines_at, lines_from};
 ghost use Rattle.sj_seat_lines.specs.Party.{ask_at, party_at, seat_at};
 ghost use Rattle.sj_seat_lines.specs.Reading.{IsNextLine, left_of};
 ghost use Rattle.sj_seat_lines.specs.Settled.{settled_of};
@@ -53,8 +53,9 @@ pub struct Left<K> {
 impl<'a, S: Source + Drop, K: Sink + Drop> Lines<'a, S, K> {
     /// The lines that are read there, of that party; the answers go there.
     pub fn new(alloc: Global, party: Party<'a>, lines: LineReader<S>, sink: K) -> Lines<'a, S, K>
-        ensures { lines_at S.left K.written result
+        ensures lines { lines_at S.left K.written result
             ≡ lines_from (party_at party.entry) (left_of S.left lines) (K.written sink) }
+        ensures ended { ended_of result ≡ None }
     {
         Lines {
             alloc,
@@ -66,7 +67,11 @@ impl<'a, S: Source + Drop, K: Sink + Drop> Lines<'a, S, K> {
     }
 
     /// What the lines leave.
-    pub fn into_left(self) -> Left<K> {
+    pub fn into_left(self) -> Left<K>
+        ensures ended { result.ended ≡ ended_of self.entry }
+        ensures texts { result.texts ≡ (lines_at S.left K.written self.entry).party.texts }
+        ensures written { K.written result.sink ≡ (lines_at S.left K.written self.entry).written }
+    {
         Left {
             ended: self.ended,
             texts: self.party.into_texts(),
