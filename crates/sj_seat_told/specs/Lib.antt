@@ -1,3 +1,4 @@
+pub mod Opened
 pub mod Quiet
 pub mod Standing
 pub mod Transcript

@@ -46,8 +46,8 @@ fn earlier(first: Option<EndId>, end: EndId) -> EndId
     }
 }
 
-// The place of the end by its name: the lower session first, and in it the first side.
-fn slot_of(end: EndId) -> u64
+/// The place of the end by its name: the lower session first, and in it the first side.
+pub(crate) fn slot_of(end: EndId) -> u64
     ensures { result ≡ slot_of end }
 {
     let first = 2 * end.sess as u64;

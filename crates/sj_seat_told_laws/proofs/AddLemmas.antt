@@ -1,5 +1,5 @@
 -- What an act's note reports is what the act adds to the plain world.
-use Rattle.std.proofs.Common.{◌≡◌, ℕ, zero, suc, ◌+◌, cond, List, [], ◌∷◌, ◌++◌, map, length, sum_by, Some, option_and_then, append-nil, refl, ap, sym, ◌∙◌, arith}
+use Rattle.std.proofs.Common.{◌≡◌, ℕ, zero, suc, ◌+◌, cond, ◌≤◌, List, [], ◌∷◌, ◌++◌, map, length, sum_by, Some, option_and_then, append-nil, refl, ap, sym, ◌∙◌, arith}
 use Rattle.std.proofs.lemmas.List.{length-append}
 use Rattle.std.proofs.lemmas.List.Sums.{sum_by-cons}
 use Rattle.sj_base.specs.declared.EndId.{EndId}
@@ -9,7 +9,7 @@ use Rattle.sj_lang.specs.Place.{Place}
 use Rattle.sj_semantics.specs.declared.Passed.{Passed}
 use Rattle.sj_semantics.specs.Acts.{sent_by, taken_by, uses_on}
 use Rattle.sj_semantics.specs.Ends.{EndAt, Session, end_at, is_end, unopened}
-use Rattle.sj_semantics.specs.Requests.{Opening}
+use Rattle.sj_semantics.specs.Requests.{Opening, limit_of_requests}
 use Rattle.sj_semantics.specs.Run.{after_acts}
 use Rattle.sj_semantics.specs.Uses.{Use, after_uses, altered_session, begins, delegates, end_after, on_side, sends, takes}
 use Rattle.sj_semantics.specs.World.{World, act_of, begun_by, session_message}
@@ -25,21 +25,24 @@ use Rattle.sj_told.specs.Counts.{is_sent, messages_sent}
 use Rattle.sj_told_laws.proofs.CountLemmas.{lines_add}
 use Rattle.sj_seat_laws.specs.SeatedWorld.{world_opened}
 use Rattle.sj_seat_laws.proofs.HeadlineLemmas.{sent_after_uses}
+use Rattle.sj_seat_told_laws.proofs.RequestLemmas.{Opens, file_opens}
 
 -- the world has more by what that party's note reports
 pub record Adds (w : World) (p : ℕ) (note : NoteAt) (v : World) : Type 0 where
   pub sent : (e : EndId) → (end_at v.sessions e).sent ≡ (end_at w.sessions e).sent ++ sent_told e p note
   pub takers : (e : EndId) → (end_at v.sessions e).takers ≡ (end_at w.sessions e).takers ++ map (λ x. x.by) (taken_told e p note)
   pub count : messages_sent v ≡ messages_sent w + is_sent note
+  pub opens : Opens w p note v
 
 -- ---- a party that goes by the file: the laws of one line
 
-pub file_adds : (w v : World) (p : ℕ) (note : NoteAt) → act_of w p ≡ Some v → option_and_then (note_of w p) (next_step w p) ≡ Some note → Adds w p note v
-file_adds w v p note acted noted = record {
+pub file_adds : (w v : World) (p : ℕ) (note : NoteAt) → ((a : ℕ) → length (w.requests a) ≤ limit_of_requests) → act_of w p ≡ Some v → option_and_then (note_of w p) (next_step w p) ≡ Some note → Adds w p note v
+file_adds w v p note few acted noted = record {
   sent = λ e. sent_is_of_acts w v (p ∷ []) e run ∙ ap (λ xs. (end_at w.sessions e).sent ++ xs) (sym (tied_sent e (line ∷ []) w tied) ∙ append-nil (sent_told e p note));
   takers = λ e.
       takers_are_of_acts w v (p ∷ []) e run ∙ ap (λ xs. (end_at w.sessions e).takers ++ map (λ x. x.by) xs) (sym (tied_taken e (line ∷ []) w tied) ∙ append-nil (taken_told e p note));
   count = omega (arith, lines_add (line ∷ []) w v tied run);
+  opens = file_opens w v p note few acted noted;
 }
   where
     line : LineAt
@@ -95,11 +98,12 @@ pub record Tells (p : ℕ) (note : NoteAt) (us : List (EndId × Use)) : Type 0 w
   pub taken : (e : EndId) → taken_told e p note ≡ uses_on e taken_by p us
   pub count : is_sent note ≡ uses_count us
 
-pub uses_add : (w : World) (p : ℕ) (note : NoteAt) (o : Opening) (us : List (EndId × Use)) → Tells p note us → Adds w p note (world_opened p o us w)
-uses_add w p note o us t = record {
+pub uses_add : (w : World) (p : ℕ) (note : NoteAt) (o : Opening) (us : List (EndId × Use)) → Tells p note us → Opens w p note (world_opened p o us w) → Adds w p note (world_opened p o us w)
+uses_add w p note o us t opens = record {
   sent = λ e. sent_after_uses p us w.sessions e ∙ ap (λ xs. (end_at w.sessions e).sent ++ xs) (sym (t.sent e));
   takers = λ e. takers_after_uses p us w.sessions e ∙ ap (λ xs. (end_at w.sessions e).takers ++ map (λ x. x.by) xs) (sym (t.taken e));
   count = omega (arith, uses_size p us w.sessions, t.count);
+  opens = opens;
 }
 
 -- ---- a party that is played by code

@@ -8,7 +8,6 @@ use Rattle.sj_lang.specs.Place.{Place, done}
 use Rattle.sj_acceptance.specs.Accepted.{IsAccepted}
 use Rattle.sj_semantics.specs.Ends.{Session, end_at, other_end}
 use Rattle.sj_semantics.specs.Program.{Program}
-use Rattle.sj_semantics.specs.State.{opened_in}
 use Rattle.sj_semantics.specs.World.{World, session_of}
 use Rattle.sj_semantics_laws.proofs.RoomLemmas.{length-uses_le}
 use Rattle.sj_rules.specs.History.{IsQuietAmong, turn_of}
@@ -24,7 +23,6 @@ use Rattle.sj_told.specs.declared.told.Stand.{Stand}
 use Rattle.sj_told.specs.declared.told.ToldEnd.{ToldEnd}
 use Rattle.sj_told.specs.Lines.{AreToldBy}
 use Rattle.sj_told.specs.Told.{AreEnds}
-use Rattle.sj_told_laws.proofs.OpenedLemmas.{none_opened}
 use Rattle.sj_seat_laws.specs.SeatedPlay.{Player, player_binds, seated_play}
 use Rattle.sj_seat_laws.specs.SeatsStart.{Callers, IsSeatsCoreRun, IsSeatsRun, seats_core, seats_start}
 use Rattle.sj_seat_laws.specs.SeatsActs.{uses_of}
@@ -36,7 +34,7 @@ use Rattle.sj_seat_told_laws.specs.SeatsEnd.{IsSeatsEnd}
 use Rattle.sj_seat_told_laws.specs.SeatsHistory.{IsSeatsHistory, acts_of}
 use Rattle.sj_seat_told_laws.specs.SeatsStands.{AreSeatsStands}
 use Rattle.sj_seat_told_laws.specs.StillSeats.{IsStandOf}
-use Rattle.sj_seat_told_laws.proofs.HistoryLemmas.{history_count, history_sent, history_takers}
+use Rattle.sj_seat_told_laws.proofs.HistoryLemmas.{history_count, history_opened, history_sent, history_takers}
 use Rattle.sj_seat_told_laws.proofs.QuietLemmas.{code_held, node_held, quiet_lanes}
 use Rattle.sj_seat_told_laws.proofs.RestLemmas.{none_ready}
 use Rattle.sj_seat_told_laws.proofs.StandLemmas.{stands_are}
@@ -52,9 +50,6 @@ module _ (file : FileAt) (calls : Callers) (accepted : IsAccepted file) (core : 
   all_stand none stands many each =
       stands_are t stands (many ∙ sym parties) none (λ p g s at there.
       subst (λ (h : Player). IsStandOf h s) (players p ∙ ap (λ (o : Option Program). player_by (seat_of t.seats p) (unwrap_or o nobody)) at) (each p s there))
-
-  none_was_opened : ((p : ℕ) → p < length file.parties → (core.nodes p).requests ≡ 0) → opened_in t.world ≡ []
-  none_was_opened none = none_opened t.world.requests (length t.world.parties) 0 (λ p low high. sym (kept.requests p) ∙ none p (omega (arith, high, parties)))
 
 -- no act takes a session away
 sessions_stay : (t u : SeatsWorld) (qs : List ℕ) → after_seats t qs ≡ Some u → length t.world.sessions ≤ length u.world.sessions
@@ -91,6 +86,6 @@ quiet_end file calls pick lines core accepted picks history quiet =
         count = history_count file calls accepted pick picks lines core history e.0 e.1;
         players = players file calls accepted core (acts_of lines) e.0 e.1 e.2;
         stands = all_stand file calls accepted core (acts_of lines) e.0 e.1 e.2 e.3;
-        opened = none_was_opened file calls accepted core (acts_of lines) e.0 e.1 e.2;
+        opened = history_opened file calls accepted pick picks lines core history e.0 e.1;
       },
     )

@@ -1,5 +1,5 @@
 -- A history of a run with seats reports what the plain world at its end has.
-use Rattle.std.proofs.Common.{◌≡◌, ℕ, ◌+◌, List, [], ◌∷◌, ◌++◌, map, length, Option, Some, None, option_map, option_and_then, append-nil, append_assoc, refl, ap, sym, ◌∙◌, subst, arith}
+use Rattle.std.proofs.Common.{◌≡◌, ℕ, ◌+◌, ◌<◌, ◌≤◌, Bool, true, false, ◌||◌, List, [], ◌∷◌, ◌++◌, map, length, Option, Some, None, option_map, option_and_then, append-nil, append_assoc, refl, ap, sym, ◌∙◌, subst, arith}
 use Rattle.std.proofs.lemmas.List.{map-append}
 use Rattle.sj_base.specs.declared.EndId.{EndId}
 use Rattle.sj_lang.specs.FileAt.{FileAt}
@@ -7,6 +7,8 @@ use Rattle.sj_lang.specs.Place.{Place, done}
 use Rattle.sj_acceptance.specs.Accepted.{IsAccepted}
 use Rattle.sj_semantics.specs.declared.Passed.{Passed}
 use Rattle.sj_semantics.specs.Ends.{end_at}
+use Rattle.sj_semantics.specs.Requests.{limit_of_requests, no_opening, opened_number}
+use Rattle.sj_semantics.specs.State.{opened_in}
 use Rattle.sj_semantics.specs.World.{World}
 use Rattle.sj_rules.specs.Events.{acts_by}
 use Rattle.sj_rules.specs.Frames.{FrameAt}
@@ -31,8 +33,11 @@ use Rattle.sj_seat_laws.proofs.HeadlineLemmas.{fresh_at}
 use Rattle.sj_seat_laws.proofs.SeatsLawfulLemmas.{seats_are_lawful}
 use Rattle.sj_seat_laws.proofs.SeatsRunLemmas.{between, run_stands, seats_run}
 use Rattle.sj_seat_told_laws.specs.SeatsHistory.{IsSeatsHistory, acts_of}
+use Rattle.sj_seat_told_laws.specs.SeatsOpened.{RequestTold, is_accept_of, is_accepted_in, request_told, requests_told, sessions_told, unnamed}
 use Rattle.sj_seat_told_laws.proofs.AddLemmas.{Adds}
 use Rattle.sj_seat_told_laws.proofs.NotedLemmas.{act_is_noted}
+use Rattle.sj_seat_told_laws.proofs.OpenedLemmas.{all_told}
+use Rattle.sj_seat_told_laws.proofs.RequestLemmas.{accepted_at, frames_are_silent, numbered, opens_by, or_false}
 use Rattle.sj_seat_told_laws.proofs.StepLemmas.{act_adds}
 
 -- ---- the note of a line
@@ -62,11 +67,12 @@ front_tells [] note h = cc
 front_tells (f ∷ rest) note h = subst IsOfFrame (let it : body_note f.body ≡ note = cc in it) (body_tells f.body)
 
 -- and adds nothing
-frame_adds : (w : World) (p : ℕ) (note : NoteAt) → IsOfFrame note → Adds w p note w
-frame_adds w p note of_frame = record {
+frame_adds : (w : World) (p : ℕ) (note : NoteAt) → ((a : ℕ) → length (w.requests a) ≤ limit_of_requests) → IsOfFrame note → Adds w p note w
+frame_adds w p note few of_frame = record {
   sent = λ e. sym (append-nil (end_at w.sessions e).sent) ∙ ap (λ xs. (end_at w.sessions e).sent ++ xs) (sym (tied_sent e (line ∷ []) w tied) ∙ append-nil (sent_told e p note));
   takers = λ e. sym (append-nil (end_at w.sessions e).takers) ∙ ap (λ xs. (end_at w.sessions e).takers ++ map (λ x. x.by) xs) (sym (tied_taken e (line ∷ []) w tied) ∙ append-nil (taken_told e p note));
   count = omega (arith, lines_add (line ∷ []) w w tied refl);
+  opens = opens_by w p few w no_opening note (λ a. refl) (frames_are_silent p note of_frame);
 }
   where
     line : LineAt
@@ -81,9 +87,21 @@ pub record Grows (w : World) (lines : List LineAt) (v : World) : Type 0 where
   pub sent : (e : EndId) → (end_at v.sessions e).sent ≡ (end_at w.sessions e).sent ++ told_in (sent_told e) lines
   pub takers : (e : EndId) → (end_at v.sessions e).takers ≡ (end_at w.sessions e).takers ++ map (λ x. x.by) (told_in (taken_told e) lines)
   pub count : messages_sent v ≡ messages_sent w + sent_count lines
+  pub requested : (a : ℕ) → numbered a 0 (v.requests a) ≡ numbered a 0 (w.requests a) ++ requests_told a lines
+  pub accepted : (a k : ℕ) → k < limit_of_requests → accepted_at (v.requests a) k ≡ accepted_at (w.requests a) k || is_accepted_in (opened_number a k) lines
 
 grows_none : (w : World) → Grows w [] w
-grows_none w = record { sent = λ e. sym (append-nil (end_at w.sessions e).sent); takers = λ e. sym (append-nil (end_at w.sessions e).takers); count = omega arith }
+grows_none w = record {
+  sent = λ e. sym (append-nil (end_at w.sessions e).sent);
+  takers = λ e. sym (append-nil (end_at w.sessions e).takers);
+  count = omega arith;
+  requested = λ a. sym (append-nil (numbered a 0 (w.requests a)));
+  accepted = λ a k lt. or_false (accepted_at (w.requests a) k);
+}
+
+or_assoc : (a b c : Bool) → a || b || c ≡ a || (b || c)
+or_assoc true b c = refl
+or_assoc false b c = refl
 
 grows_more : (w v u : World) (l : LineAt) (ls : List LineAt) → Adds w l.party l.entry.note v → Grows v ls u → Grows w (l ∷ ls) u
 grows_more w v u l ls a g = record {
@@ -96,6 +114,12 @@ grows_more w v u l ls a g = record {
       g.takers e ∙ ap (λ xs. xs ++ map (λ x. x.by) rest) (a.takers e) ∙ append_assoc (end_at w.sessions e).takers (map (λ x. x.by) one) (map (λ x. x.by) rest)
       ∙ ap (λ xs. (end_at w.sessions e).takers ++ xs) (sym (map-append (λ (x : Passed). x.by) one rest));
   count = omega (arith, g.count, a.count);
+  requested = λ b.
+      g.requested b ∙ ap (λ (xs : List RequestTold). xs ++ requests_told b ls) (a.opens.requested b)
+      ∙ append_assoc (numbered b 0 (w.requests b)) (request_told b l.party l.entry.note) (requests_told b ls);
+  accepted = λ b k lt.
+      g.accepted b k lt ∙ ap (λ (c : Bool). c || is_accepted_in (opened_number b k) ls) (a.opens.accepted b k lt)
+      ∙ or_assoc (accepted_at (w.requests b) k) (is_accept_of (opened_number b k) l.entry.note) (is_accepted_in (opened_number b k) ls);
 }
 
 -- ---- acts
@@ -138,11 +162,14 @@ module _ (file : FileAt) (calls : Callers) (accepted : IsAccepted file) (pick : 
       let s = run_stands file calls accepted (map turn_of front) core (log_runs play pick picks front (seats_core file calls) core history) in
       record { plain = s.0; run = s.1; kept = s.2 }
 
+  few_there : (ps : List ℕ) (core : WorldAt Place Player) (s : Standing ps core) (a : ℕ) → length (s.plain.world.requests a) ≤ limit_of_requests
+  few_there ps core s a = (seats_run file calls accepted ps s.plain s.run).sound.unshared.few a
+
   -- what an act's note reports is what the act adds
   act_line : (ps : List ℕ) (core : WorldAt Place Player) (s : Standing ps core) (v : SeatsWorld) (p : ℕ) (note : NoteAt) → seats_act s.plain p ≡ Some v → event_note play core p Act ≡ Some note → Adds s.plain.world p note v.world
   act_line ps core s v p note acted noted =
       let lawful = seats_are_lawful file (length ps) s.plain (seats_run file calls accepted ps s.plain s.run) accepted.within.parties in
-      act_adds file s.plain lawful p v note (act_is_noted IsDone play player_binds core (seats_seen s.plain) s.kept lawful p note noted) acted
+      act_adds file s.plain lawful (few_there ps core s) p v note (act_is_noted IsDone play player_binds core (seats_seen s.plain) s.kept lawful p note noted) acted
 
   line_grows : (ls : List LineAt) (ps : List ℕ) (core mid : WorldAt Place Player) (s : Standing ps core) (l : LineAt) (event : Event) (next : Standing (ps ++ acts_by event l.party) mid) (u : SeatsWorld)
       → (after_seats next.plain (acts_of ls) ≡ Some u → Grows next.plain.world ls u.world)
@@ -155,7 +182,7 @@ module _ (file : FileAt) (calls : Callers) (accepted : IsAccepted file) (pick : 
       let same : next.plain ≡ s.plain = one_end next.plain s.plain (sym next.run ∙ ap (after_seats (seats_start file calls)) (append-nil ps) ∙ s.run) in
       let rest = onward (subst (λ (x : SeatsWorld). after_seats x (acts_of ls) ≡ Some u) (sym same) run) in
       grows_more s.plain.world s.plain.world u.world l ls
-      (frame_adds s.plain.world l.party l.entry.note (front_tells (core.lanes q l.party) l.entry.note (note_due play pick core mid l.party (Deliver q) l happened h)))
+      (frame_adds s.plain.world l.party l.entry.note (few_there ps core s) (front_tells (core.lanes q l.party) l.entry.note (note_due play pick core mid l.party (Deliver q) l happened h)))
       (subst (λ (x : SeatsWorld). Grows x.world ls u.world) same rest)
 
   grows_from : (ls front : List LineAt) (core last : WorldAt Place Player) (s : Standing (acts_of front) core) → IsSeatsHistory pick file calls front core → IsLog play pick core ls last → (u : SeatsWorld)
@@ -183,6 +210,18 @@ module _ (file : FileAt) (calls : Callers) (accepted : IsAccepted file) (pick : 
 
     pub history_takers : (e : EndId) → (end_at t.world.sessions e).takers ≡ map (λ x. x.by) (told_in (taken_told e) lines)
     history_takers e = grown.takers e ∙ ap (λ xs. xs ++ map (λ x. x.by) (told_in (taken_told e) lines)) (fresh_at file file.connects e.sess e.side).1
+
+    -- what the party requested, and which of that was accepted
+    requests_are : (a : ℕ) → numbered a 0 (t.world.requests a) ≡ requests_told a lines
+    requests_are a = grown.requested a
+
+    accepts_are : (a k : ℕ) → k < limit_of_requests → accepted_at (t.world.requests a) k ≡ is_accepted_in (opened_number a k) lines
+    accepts_are a k lt = grown.accepted a k lt
+
+    pub history_opened : map unnamed (opened_in t.world) ≡ sessions_told lines (length file.parties) 0
+    history_opened =
+        let held = seats_run file calls accepted (acts_of lines) t run in
+        all_told lines t.world.requests requests_are accepts_are held.sound.unshared.few (length t.world.parties) 0 ∙ ap (λ (n : ℕ). sessions_told lines n 0) held.proper.many
 
     pub history_count : messages_sent t.world ≡ sent_count lines
     history_count = omega (arith, grown.count, none_at_start file file.connects)

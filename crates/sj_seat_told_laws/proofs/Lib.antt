@@ -1,6 +1,8 @@
 pub mod NotedLemmas
+pub mod RequestLemmas
 pub mod AddLemmas
 pub mod StepLemmas
+pub mod OpenedLemmas
 pub mod HistoryLemmas
 pub mod StandLemmas
 pub mod RestLemmas

@@ -1,5 +1,5 @@
 -- An act in the plain world with seats adds what the note of the core's act reports.
-use Rattle.std.proofs.Common.{◌≡◌, ℕ, ◌+◌, nat_lt, not, Bool, true, false, cond, List, [], ◌∷◌, length, slice_get, unwrap_or, Option, Some, None, option_map, option_and_then, refl, ap, sym, ◌∙◌, subst, arith}
+use Rattle.std.proofs.Common.{◌≡◌, ℕ, ◌+◌, ◌≤◌, nat_lt, not, Bool, true, false, cond, List, [], ◌∷◌, length, slice_get, unwrap_or, Option, Some, None, option_map, option_and_then, refl, ap, sym, ◌∙◌, subst, arith}
 use Rattle.sj_base.specs.declared.EndId.{EndId}
 use Rattle.sj_base.specs.declared.Msg.{Msg}
 use Rattle.sj_lang.specs.Dual.{dual_of}
@@ -35,11 +35,12 @@ use Rattle.sj_rules_laws.specs.TiedNotes.{note_of}
 use Rattle.sj_seat_laws.specs.Calls.{SeatedAt}
 use Rattle.sj_seat_laws.specs.Guards.{seated_want}
 use Rattle.sj_seat_laws.specs.SeatedPlay.{Player, player_binds, seated_play, written}
-use Rattle.sj_seat_laws.specs.SeatedWorld.{Doing, accepting, after_doing, beside, doing_by, doing_of, plain_doing, requesting}
+use Rattle.sj_seat_laws.specs.SeatedWorld.{Doing, accepting, after_doing, beside, doing_by, doing_of, plain_doing, requesting, world_opened}
 use Rattle.sj_seat_laws.specs.SeatsWorld.{SeatsWorld, all_beside, player_by, seat_of, seats_act, seats_act_by, seats_seen, with_seat}
 use Rattle.sj_seat_laws.proofs.UsingLemmas.{worn_doing}
 use Rattle.sj_seat_told_laws.specs.PlainNotes.{plain_note, step_note}
 use Rattle.sj_seat_told_laws.proofs.AddLemmas.{Adds, Tells, accept_tells, delegate_tells, file_adds, request_tells, send_tells, shut_tells, take_tells, uses_add}
+use Rattle.sj_seat_told_laws.proofs.RequestLemmas.{Says, opens_by}
 
 -- the value of an option, where what it maps to is there
 map_some : {X Y : Type 0} (f : X → Y) (o : Option X) (y : Y) → option_map f o ≡ Some y → (x : X) × (o ≡ Some x) × (f x ≡ y)
@@ -50,7 +51,7 @@ map_twice : {X Y Z : Type 0} (f : X → Y) (g : Y → Z) (o : Option X) → opti
 map_twice f g None = refl
 map_twice f g (Some x) = refl
 
-module _ (file : FileAt) (t : SeatsWorld) (lawful : IsLawful IsDone (seated_play file) player_binds (length file.parties) (seats_seen t)) (q : ℕ) where
+module _ (file : FileAt) (t : SeatsWorld) (lawful : IsLawful IsDone (seated_play file) player_binds (length file.parties) (seats_seen t)) (few : (a : ℕ) → length (t.world.requests a) ≤ limit_of_requests) (q : ℕ) where
   abbrev w : World
   w = t.world
 
@@ -105,13 +106,58 @@ module _ (file : FileAt) (t : SeatsWorld) (lawful : IsLawful IsDone (seated_play
       by (Some sess) None m k = cc
       by (Some sess) (Some j) m k = tells_so note (notes.Accept sess from) d (accepting from place j) m k (accept_tells q sess from (side (opened_number from j) 1) place)
 
+  -- and what it does to requests
+
+  silent_so : (note other : NoteAt) (d other_do : Doing) → Some other ≡ Some note → Some other_do ≡ Some d → Says w q other_do.opening other → Says w q d.opening note
+  silent_so note other d other_do noted made says =
+      let same : other_do ≡ d = cc in
+      subst (λ (k : NoteAt). Says w q d.opening k) (same_note other note noted) (subst (λ (x : Doing). Says w q x.opening other) same says)
+
+  -- the first session that is offered
+  first_is : (from j : ℕ) → first_offer q (w.requests from) ≡ Some j → slice_get (offered_from q from 0 (w.requests from)) 0 ≡ Some (opened_number from j)
+  first_is from j first =
+      let number : 0 + j ≡ j = omega arith in
+      ap (λ l. slice_get l 0) (first_offered q from 0 (w.requests from) j 0 first) ∙ ap (λ (i : ℕ). Some (opened_number from i)) number
+
+  call_says : (want : Want Place) (d : Doing) (note : NoteAt) → doing_by q w want ≡ Some d → plain_note plain q want ≡ Some note → Says w q d.opening note
+  call_says wanted.ended d note made noted = cc
+  call_says wanted.local d note made noted = cc
+  call_says (wanted.sends e m) d note made noted = silent_so note (notes.Sent e m) d (plain_doing None ((e, uses.sends m) ∷ [])) noted made (λ a. refl, λ s. refl)
+  call_says (wanted.delegates c e) d note made noted = by (nat_lt (end_at w.sessions e).hops 100) made
+    where
+      by : (b : Bool) → cond b (Some (plain_doing None ((e, uses.delegates) ∷ (c, uses.sends (session_message e q)) ∷ []))) None ≡ Some d → Says w q d.opening note
+      by true k = silent_so note (notes.Sent c (session_message e q)) d (plain_doing None ((e, uses.delegates) ∷ (c, uses.sends (session_message e q)) ∷ [])) noted k (λ a. refl, λ s. refl)
+      by false k = cc
+  call_says (wanted.takes e place) d note made noted = by (waiting_at plain e 0) (next_for w.sessions e) noted made
+    where
+      by : (m : Option Msg) (o : Option Passed) → option_map (λ m. notes.Took e m) m ≡ Some note → option_map (λ (x : Passed). plain_doing (Some x.msg) ((e, uses.takes x.msg) ∷ begun_by place x.msg)) o ≡ Some d → Says w q d.opening note
+      by None o h k = cc
+      by (Some m) None h k = cc
+      by (Some m) (Some x) h k = silent_so note (notes.Took e m) d (plain_doing (Some x.msg) ((e, uses.takes x.msg) ∷ begun_by place x.msg)) h k (λ a. refl, λ s. refl)
+  call_says (wanted.closes e) d note made noted = silent_so note (notes.Shut e) d (plain_doing None []) noted made (λ a. refl, λ s. refl)
+  call_says (wanted.requests place to) d note made noted = by (nat_lt (length (w.requests q)) limit_of_requests) made
+    where
+      by : (b : Bool) → cond b (Some (requesting (opened_number q (length (w.requests q))) place to)) None ≡ Some d → Says w q d.opening note
+      by true k = silent_so note (notes.Request (rules.opened_number q (plain.requests q)) to) d (requesting (opened_number q (length (w.requests q))) place to) noted k (refl, refl)
+      by false k = cc
+  call_says (wanted.accepts place from) d note made noted = by (first_offer q (w.requests from)) refl made
+    where
+      by : (o : Option ℕ) → first_offer q (w.requests from) ≡ o → option_map (accepting from place) o ≡ Some d → Says w q d.opening note
+      by None first k = cc
+      by (Some j) first k =
+          silent_so note (notes.Accept (opened_number from j) from) d (accepting from place j) (sym (ap (option_map (λ (i : ℕ). notes.Accept i from)) (first_is from j first)) ∙ noted) k (refl, first)
+
   seat_adds : (s : SeatedAt) → seat_of t.seats q ≡ Some s → (v : SeatsWorld) (note : NoteAt) → step_note play plain q ≡ Some note
       → option_map (λ d. with_seat q t.seats (after_doing q (beside s w) d)) (doing_of q (beside s w)) ≡ Some v → Adds w q note v.world
   seat_adds s at v note noted acted =
       let d = map_some (λ d. with_seat q t.seats (after_doing q (beside s w) d)) (doing_of q (beside s w)) v acted in
       let want : play.wants (plain.programs q) ≡ seated_want s = ap (λ o. play.wants (player_by o ((plain_at w).programs q))) at in
-      let tells = call_tells (seated_want s) (subst Fits want (lawful.steps q)) d.0 note (worn_doing q (beside s w) d.0 (not (nat_lt s.steps 10000)) d.1) (sym (ap (plain_note plain q) want) ∙ noted) in
-      subst (λ (x : SeatsWorld). Adds w q note x.world) d.2 (uses_add w q note d.0.opening d.0.uses tells)
+      let made = worn_doing q (beside s w) d.0 (not (nat_lt s.steps 10000)) d.1 in
+      let of_it : plain_note plain q (seated_want s) ≡ Some note = sym (ap (plain_note plain q) want) ∙ noted in
+      let tells = call_tells (seated_want s) (subst Fits want (lawful.steps q)) d.0 note made of_it in
+      let after : World = world_opened q d.0.opening d.0.uses w in
+      let opens = opens_by w q few after d.0.opening note (λ a. refl) (call_says (seated_want s) d.0 note made of_it) in
+      subst (λ (x : SeatsWorld). Adds w q note x.world) d.2 (uses_add w q note d.0.opening d.0.uses tells opens)
 
   -- ---- a party that goes by the file
 
@@ -126,10 +172,7 @@ module _ (file : FileAt) (t : SeatsWorld) (lawful : IsLawful IsDone (seated_play
   step_noted ps g (wants.Request p to) fit c made note h = h
   step_noted ps g (wants.Accept p from) fit c made note h =
       let k = map_some (change_by_accepting g from (body_named w.protocols p)) (first_offer q (w.requests from)) c made in
-      let number : 0 + k.0 ≡ k.0 = omega arith in
-      let first : slice_get (offered_from q from 0 (w.requests from)) 0 ≡ Some (opened_number from k.0) =
-      ap (λ l. slice_get l 0) (first_offered q from 0 (w.requests from) k.0 0 k.1) ∙ ap (λ (i : ℕ). Some (opened_number from i)) number in
-      ap (option_map (λ i. notes.Accept (opened_number from i) from)) k.1 ∙ sym (ap (option_map (λ (i : ℕ). notes.Accept i from)) first) ∙ h
+      ap (option_map (λ i. notes.Accept (opened_number from i) from)) k.1 ∙ sym (ap (option_map (λ (i : ℕ). notes.Accept i from)) (first_is from k.0 k.1)) ∙ h
 
   by_file : seat_of t.seats q ≡ None → (v : World) (note : NoteAt) → step_note play plain q ≡ Some note → act_of w q ≡ Some v → Adds w q note v
   by_file at v note noted acted =
@@ -138,7 +181,7 @@ module _ (file : FileAt) (t : SeatsWorld) (lawful : IsLawful IsDone (seated_play
       let own : plain.programs q ≡ written a.program = ap (λ o. player_by o ((plain_at w).programs q)) at ∙ ap (λ (o : Option Program). written (unwrap_or o nobody)) a.there in
       let want : play.wants (plain.programs q) ≡ want_for file.protocols r.want = ap play.wants own ∙ ap (want_or_ended file.protocols) r.wants_it in
       let note_is = step_noted file.protocols a.program r.want (subst Fits want (lawful.steps q)) a.change r.by_it note (sym (ap (plain_note plain q) want) ∙ noted) in
-      file_adds w v q note acted (ap (option_and_then (note_of w q)) (ap (option_and_then want_of) a.there ∙ r.wants_it) ∙ note_is)
+      file_adds w v q note few acted (ap (option_and_then (note_of w q)) (ap (option_and_then want_of) a.there ∙ r.wants_it) ∙ note_is)
 
   -- ---- whoever it is
 

@@ -18,7 +18,6 @@ use Rattle.sj_semantics.specs.World.{World}
 use Rattle.sj_rules.specs.Node as wanted
 use Rattle.sj_rules.specs.Node.{Want}
 use Rattle.sj_told.specs.declared.told.Stand.{Stand}
-use Rattle.sj_told.specs.Told.{verdict_by}
 use Rattle.sj_seat_laws.specs.Calls.{SeatedAt}
 use Rattle.sj_seat_laws.specs.Guards.{seated_want}
 use Rattle.sj_seat_laws.specs.SeatedStart.{no_program}
@@ -26,8 +25,10 @@ use Rattle.sj_seat_laws.specs.SeatsHeadline.{IsAllDone}
 use Rattle.sj_seat_laws.specs.SeatsWorld.{SeatsWorld, seat_of}
 use Rattle.sj_seat_laws.proofs.SeatsLemmas.{IsSeats, one_holds}
 use Rattle.sj_seat_told_laws.proofs.OpenLemmas.{none_open, open_none}
+use Rattle.sj_seat_told_laws.proofs.OpenedLemmas.{all_accepted}
 use Rattle.sj_seat_told_laws.specs.FirstOpen.{first_open}
-use Rattle.sj_seat_told_laws.specs.SeatsStands.{AreSeatsStands, player_state, seats_states, seats_states_from, seats_verdict, state_by_open, state_calling, state_holding, state_of_seat}
+use Rattle.sj_seat_told_laws.specs.SeatsOpened.{unnamed}
+use Rattle.sj_seat_told_laws.specs.SeatsStands.{AreSeatsStands, player_state, seats_states, seats_states_from, seats_verdict, state_by_open, state_calling, state_holding, state_of_seat, verdict_with}
 
 -- ---- by how the parties stand
 
@@ -39,21 +40,15 @@ all_map : (f : State → Bool) (xs : List Stand) → list_all f (map (λ s. s.st
 all_map f [] = refl
 all_map f (x ∷ xs) = ap (λ b. f x.state && b) (all_map f xs)
 
-and_true : (b : Bool) → b && true ≡ b
-and_true true = refl
-and_true false = refl
-
 abbrev verdict_so : Bool → Bool → Verdict
 verdict_so long over = if long then verdicts.Long else (if over then verdicts.Done else verdicts.Blocked)
 
-pub verdict_is : (t : SeatsWorld) (stands : List Stand) → opened_in t.world ≡ [] → AreSeatsStands t stands → verdict_by stands ≡ seats_verdict t
-verdict_is t stands none are =
+pub verdict_is : (t : SeatsWorld) (stands : List Stand) → AreSeatsStands t stands → verdict_with stands (map unnamed (opened_in t.world)) ≡ seats_verdict t
+verdict_is t stands are =
     let long = sym (any_map is_at_limit stands) ∙ ap (list_any is_at_limit) are.states in
     let ended = sym (all_map has_ended stands) ∙ ap (list_all has_ended) are.states in
-    let accepted : list_all is_accepted (opened_in t.world) ≡ true = ap (list_all is_accepted) none in
-    let over : list_all (λ s. has_ended s.state) stands ≡ list_all has_ended (seats_states t) && list_all is_accepted (opened_in t.world) =
-    ended ∙ sym (and_true (list_all has_ended (seats_states t))) ∙ ap (λ b. list_all has_ended (seats_states t) && b) (sym accepted) in
-    λ i. verdict_so (long i) (over i)
+    let accepted = all_accepted (opened_in t.world) in
+    λ i. verdict_so (long i) (ended i && accepted i)
 
 -- ---- one that is played by code has ended where it holds no open end
 

@@ -1,6 +1,7 @@
 pub mod PlainNotes
 pub mod SeatsHistory
 pub mod FirstOpen
+pub mod SeatsOpened
 pub mod SeatsStands
 pub mod StillSeats
 pub mod SeatsTranscript

@@ -1,6 +1,6 @@
 -- What a history that leaves nothing to do, and the core world to which it leads, report of the plain
 -- world at its end.
-use Rattle.std.specs.Prelude.{◌≡◌, ℕ, ◌<◌, ◌≤◌, List, [], map, length, slice_get, Some, unwrap_or}
+use Rattle.std.specs.Prelude.{◌≡◌, ℕ, ◌<◌, ◌≤◌, List, map, length, slice_get, Some, unwrap_or}
 use Rattle.sj_base.specs.declared.EndId.{EndId}
 use Rattle.sj_lang.specs.FileAt.{FileAt}
 use Rattle.sj_lang.specs.Place.{Place}
@@ -26,6 +26,7 @@ use Rattle.sj_seat_laws.specs.SeatsHeadline.{IsSeatsHeadline}
 use Rattle.sj_seat_laws.specs.SeatsStart.{Callers}
 use Rattle.sj_seat_laws.specs.SeatsWorld.{SeatsWorld, player_by, seat_of}
 use Rattle.sj_seat_told_laws.specs.SeatsHistory.{acts_of}
+use Rattle.sj_seat_told_laws.specs.SeatsOpened.{sessions_told, unnamed}
 use Rattle.sj_seat_told_laws.specs.SeatsStands.{AreSeatsStands, player_state}
 use Rattle.sj_seat_told_laws.specs.StillSeats.{IsStandOf}
 
@@ -53,5 +54,6 @@ pub record IsSeatsEnd (file : FileAt) (calls : Callers) (lines : List LineAt) (c
   -- a code's node has what the code holds, and nothing else of the sessions of connections
   pub code_held : (p : ℕ) (s : SeatedAt) → seat_of t.seats p ≡ Some s → (e : EndId) (place : Place) → place_held s.ends e ≡ Some place → IsHeldAt (core.nodes p) e place
   pub node_held : (p : ℕ) (s : SeatedAt) → seat_of t.seats p ≡ Some s → (e : EndId) (h : HeldAt Place) → e.side < 2 → e.sess < first_opened → (core.nodes p).main e ≡ Some (Held h) → place_held s.ends e ≡ Some h.end.place
-  -- where no node has opened a session, none was opened
-  pub opened : ((p : ℕ) → p < length file.parties → (core.nodes p).requests ≡ 0) → opened_in t.world ≡ []
+  -- the Request notes of each party are the sessions that it opened, and the Accept notes report
+  -- which of them were accepted
+  pub opened : map unnamed (opened_in t.world) ≡ sessions_told lines (length file.parties) 0

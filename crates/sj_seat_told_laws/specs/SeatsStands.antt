@@ -4,6 +4,7 @@ use Rattle.std.specs.List.{list_all, list_any}
 use Rattle.sj_base.specs.declared.EndId.{EndId}
 use Rattle.sj_lang.specs.Place.{Place}
 use Rattle.sj_semantics.specs.declared.Limit.TheVariants as limits
+use Rattle.sj_semantics.specs.declared.Opened.{Opened}
 use Rattle.sj_semantics.specs.declared.State.{State}
 use Rattle.sj_semantics.specs.declared.State.TheVariants as states
 use Rattle.sj_semantics.specs.declared.Verdict.{Verdict}
@@ -77,6 +78,12 @@ pub record AreSeatsStands (t : SeatsWorld) (stands : List Stand) : Type 0 where
   pub states : map (λ s. s.state) stands ≡ seats_states t
 
 -- ---- the verdict
+
+-- by how the parties stand, and by the sessions that were opened
+abbrev pub verdict_with : List Stand → List Opened → Verdict
+verdict_with stands sessions =
+    if list_any (λ s. is_at_limit s.state) stands then verdicts.Long
+    else (if list_all (λ s. has_ended s.state) stands && list_all is_accepted sessions then verdicts.Done else verdicts.Blocked)
 
 -- long where somebody is at a limit, else done where everybody has ended and each session that was
 -- opened was accepted, else blocked

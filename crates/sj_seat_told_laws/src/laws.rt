@@ -4,7 +4,7 @@
 //!
 //! - `a_seated_history_tells_its_world`: what each end sent, who took it, and how many messages.
 //! - `a_quiet_seated_history_tells_its_end`: the same of one that leaves nothing to do, with the
-//!   headline, how the parties stand, and where nothing was opened.
+//!   headline, how the parties stand, and which sessions were opened.
 //! - `seats_are_judged_by_their_stands`: the verdict, and where it is done.
 //! - `a_code_stands_at_its_first_open_end`: which end that is.
 //! - `stands_tell_the_transcript`: the transcript, by how the parties stand.
@@ -28,7 +28,6 @@ ghost use Rattle.sj_semantics.specs.declared.Verdict.TheVariants.{Blocked, Done}
 ghost use Rattle.sj_semantics_laws.specs.Samples.{greeting};
 ghost use Rattle.sj_told.specs.Counts.{messages_sent, sent_count};
 ghost use Rattle.sj_told.specs.Standing.{standing_lines};
-ghost use Rattle.sj_told.specs.Told.{verdict_by};
 ghost use Rattle.sj_told.specs.declared.told.Stand.{Stand};
 ghost use Rattle.sj_seat_laws.specs.Calls.{SeatedAt};
 ghost use Rattle.sj_seat_laws.specs.Resting.{HoldsNoOpenEnd};
@@ -40,13 +39,15 @@ ghost use Rattle.sj_seat_laws.specs.SeatsWorld.{SeatsWorld, seat_of};
 ghost use Rattle.sj_seat_told_laws.specs.FirstOpen.{IsFirstOpen, first_open};
 ghost use Rattle.sj_seat_told_laws.specs.SeatsEnd.{IsSeatsEnd};
 ghost use Rattle.sj_seat_told_laws.specs.SeatsHistory.{IsSeatsHistory, acts_of};
-ghost use Rattle.sj_seat_told_laws.specs.SeatsStands.{AreSeatsStands, seats_states, seats_verdict};
+ghost use Rattle.sj_seat_told_laws.specs.SeatsOpened.{opened_ends_lines, sessions_told, unnamed};
+ghost use Rattle.sj_seat_told_laws.specs.SeatsStands.{AreSeatsStands, seats_states, seats_verdict, verdict_with};
 ghost use Rattle.sj_seat_told_laws.specs.SeatsTranscript.{seats_transcript};
 ghost use Rattle.sj_seat_told_laws.specs.StandSamples.{both_text, gone, gone_text};
 
 /// A history of a run with seats reports the plain world to which its acts lead. The Sent notes of
 /// each end are what was sent there, with the senders. The Took notes report who took on it. There
-/// are as many Sent notes as messages.
+/// are as many Sent notes as messages. The Request notes of each party are the sessions that it
+/// opened, and the Accept notes report which of them were accepted.
 pub fn a_seated_history_tells_its_world()
     ensures sent { (file : FileAt) (calls : Callers) (pick : ℕ → ℕ → ℕ) (lines : List LineAt)
         (core : WorldAt Place Player) (t : SeatsWorld) (e : EndId) → IsAccepted file → IsPick pick →
@@ -60,6 +61,10 @@ pub fn a_seated_history_tells_its_world()
         (core : WorldAt Place Player) (t : SeatsWorld) → IsAccepted file → IsPick pick →
         IsSeatsHistory pick file calls lines core → IsSeatsRun file calls (acts_of lines) t →
         messages_sent t.world ≡ sent_count lines }
+    ensures opened { (file : FileAt) (calls : Callers) (pick : ℕ → ℕ → ℕ) (lines : List LineAt)
+        (core : WorldAt Place Player) (t : SeatsWorld) → IsAccepted file → IsPick pick →
+        IsSeatsHistory pick file calls lines core → IsSeatsRun file calls (acts_of lines) t →
+        map unnamed (opened_in t.world) ≡ sessions_told lines (length file.parties) 0 }
 {}
 
 /// Where it leaves nothing to do, that world has the headline. There each party stands as that of
@@ -73,11 +78,11 @@ pub fn a_quiet_seated_history_tells_its_end()
         (t : SeatsWorld) × IsSeatsEnd file calls lines core t }
 {}
 
-/// Where no session was opened, the verdict by how the parties stand is that of the run. It is done
-/// exactly where all is done.
+/// The verdict by how the parties stand, and by which of the sessions that were opened were accepted,
+/// is that of the run. It is done exactly where all is done.
 pub fn seats_are_judged_by_their_stands()
-    ensures told { (t : SeatsWorld) (stands : List Stand) → opened_in t.world ≡ [] →
-        AreSeatsStands t stands → verdict_by stands ≡ seats_verdict t }
+    ensures told { (t : SeatsWorld) (stands : List Stand) → AreSeatsStands t stands →
+        verdict_with stands (map unnamed (opened_in t.world)) ≡ seats_verdict t }
     ensures done { (file : FileAt) (calls : Callers) (acts : List ℕ) (t : SeatsWorld) →
         IsAccepted file → IsSeatsRun file calls acts t →
         (seats_verdict t ≡ Done) ↔ IsAllDone t }
@@ -93,13 +98,15 @@ pub fn a_code_stands_at_its_first_open_end()
         seat_of t.seats q ≡ Some s → (first_open s.ends ≡ None) ↔ HoldsNoOpenEnd s }
 {}
 
-/// Where no session was opened, the transcript is that of the sessions, with the lines and the
-/// verdict by how the parties stand.
+/// The transcript is that of the sessions, those that were opened without names for their ends, with
+/// the lines and the verdict by how the parties stand.
 pub fn stands_tell_the_transcript()
-    ensures { (file : FileAt) (t : SeatsWorld) (stands : List Stand) → opened_in t.world ≡ [] →
-        AreSeatsStands t stands → session_lines file 0 file.connects t.world.sessions
+    ensures { (file : FileAt) (t : SeatsWorld) (stands : List Stand) → AreSeatsStands t stands →
+        session_lines file 0 file.connects t.world.sessions
+        ++ opened_ends_lines file t.world.sessions (map unnamed (opened_in t.world))
         ++ standing_lines file file.parties (map (λ s. s.steps) stands) (map (λ s. s.state) stands)
-        ++ line_of (verdict_word (verdict_by stands) ∷ []) ≡ seats_transcript file t }
+        ++ line_of (verdict_word (verdict_with stands (map unnamed (opened_in t.world))) ∷ [])
+        ≡ seats_transcript file t }
 {}
 
 /// In the runs of the greeting in which parties are played by code both end. A code that takes

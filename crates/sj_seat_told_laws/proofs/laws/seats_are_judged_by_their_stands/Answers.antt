@@ -4,7 +4,7 @@ use Rattle.sj_seat_told_laws.proofs.VerdictLemmas.{all_done_is_done, done_is_all
 use Rattle.sj_seat_told_laws.proofs.laws.seats_are_judged_by_their_stands.Goals as goal
 
 pub returns-clause-told : goal.returns-clause-told
-returns-clause-told c = λ t stands none are. verdict_is t stands none are
+returns-clause-told c = λ t stands are. verdict_is t stands are
 
 pub returns-clause-done : goal.returns-clause-done
 returns-clause-done c = λ file calls acts t accepted run.
