@@ -6,6 +6,7 @@ use Rattle.sj_lang.specs.FileAt.{FileAt}
 use Rattle.sj_rules.specs.Log.{LineAt}
 use Rattle.sj_work.specs.declared.worker.Worker.{Worker}
 use Rattle.sj_seats.specs.Calls.{OpenedAs}
+use Rattle.sj_seat_run.specs.Logged.{AreOpenedSo}
 use Rattle.sj_seat_run.specs.Refusals.{HaveLogged, IsOfReplay, IsRefusedOver}
 use Rattle.sj_seat_run.specs.declared.refusal.SeatedRefusal.{SeatedRefusal}
 use Rattle.sj_seat_run.specs.declared.refusal.SeatedRefusal.TheVariants as refusals
@@ -20,9 +21,9 @@ no_link_fault file seats opened lines refusals.Unfit x is = x
 
 module _ {O I : Type 0} (outward : OutLane O) (inward : InLane I) (joined : O → I → Type 0) (file : FileAt) (looks : ℕ) (tells : Bool) (seats : ℕ → Bool) where
   -- but what the workers logged, or out of memory
-  pub replay_cause : (workers : List (Worker O I)) (lines : List LineAt) (seated : ℕ → Bool) (opened : OpenedAs) (r : SeatedRefusal) → HaveLogged outward inward joined file looks tells seats workers lines
-      → ((p : ℕ) → p < length file.parties → seated p ≡ seats p) → IsOfReplay file seated opened lines r → IsRefusedOver outward inward joined file looks tells seats r
-  replay_cause workers lines seated opened (refusals.Damaged m) logged same stop = record {
+  pub replay_cause : (workers : List (Worker O I)) (lines : List LineAt) (seated : ℕ → Bool) (opened : OpenedAs) (r : SeatedRefusal) → (logged : HaveLogged outward inward joined file looks tells seats workers lines)
+      → ((p : ℕ) → p < length file.parties → seated p ≡ seats p) → AreOpenedSo outward inward joined file looks tells seats workers logged.ran opened → IsOfReplay file seated opened lines r → IsRefusedOver outward inward joined file looks tells seats r
+  replay_cause workers lines seated opened (refusals.Damaged m) logged same so stop = record {
     workers = workers;
     lines = lines;
     logged = logged;
@@ -30,8 +31,9 @@ module _ {O I : Type 0} (outward : OutLane O) (inward : InLane I) (joined : O �
     same = same;
     opened = opened;
     stop = stop;
+    asked = so;
   }
-  replay_cause workers lines seated opened refusals.NoMemory logged same x = tt {0}
-  replay_cause workers lines seated opened refusals.LacksPlace logged same x = absurd x
-  replay_cause workers lines seated opened refusals.LinkFault logged same x = absurd x
-  replay_cause workers lines seated opened refusals.Unfit logged same x = absurd x
+  replay_cause workers lines seated opened refusals.NoMemory logged same so x = tt {0}
+  replay_cause workers lines seated opened refusals.LacksPlace logged same so x = absurd x
+  replay_cause workers lines seated opened refusals.LinkFault logged same so x = absurd x
+  replay_cause workers lines seated opened refusals.Unfit logged same so x = absurd x

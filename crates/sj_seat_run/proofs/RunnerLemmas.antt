@@ -1,7 +1,9 @@
 -- Parties that began with the lanes of their numbers and took part are the parties of a run.
-use Rattle.std.proofs.Common.{◌≡◌, ◌∙◌, ℕ, ◌<◌, Bool, false, List, [], map, length, Some, refl, sym, ap, subst, arith}
+use Rattle.std.proofs.Common.{◌≡◌, ◌∙◌, ℕ, ◌<◌, Bool, false, List, [], ◌++◌, append-nil, map, length, Option, Some, refl, sym, ap, subst, arith}
 use Rattle.std.specs.Prelude.{slice_get, unwrap_or, vec_len}
 use Rattle.std.proofs.lemmas.List.{length-map}
+use Rattle.std.specs.Global.{Vec}
+use Rattle.sj_base.specs.declared.EndId.{EndId}
 use Rattle.sj_lang.specs.FileAt.{FileAt}
 use Rattle.sj_lane.specs.declared.lane.OutLane.{Ghosts as OutLane}
 use Rattle.sj_lane.specs.declared.lane.InLane.{Ghosts as InLane}
@@ -13,6 +15,8 @@ use Rattle.sj_seat_laws.specs.SeatedStart.{seat_start}
 use Rattle.sj_seat.specs.Views.{seat_of, worker_of}
 use Rattle.sj_seat.specs.Went.{SeatWork}
 use Rattle.sj_seat.specs.declared.guest.Guest.{Guest}
+use Rattle.sj_seat.specs.declared.wish.OpenedSession.{OpenedSession}
+use Rattle.sj_seats.specs.Openings.{opened_by, protocol_in, protocol_of}
 use Rattle.sj_seats.specs.Seated.{seat_in}
 use Rattle.sj_table.specs.declared.table.Table.{Table}
 use Rattle.sj_work.specs.Counts.{Stands}
@@ -20,13 +24,20 @@ use Rattle.sj_work.specs.Views.{in_of, lanes_of, out_of}
 use Rattle.sj_work.specs.declared.worker.Worker.{Worker}
 use Rattle.sj_run.specs.Workers.{AreNew}
 use Rattle.sj_seat_run.proofs.ListLemmas.{below_length, mapped_at, mapped_from}
-use Rattle.sj_seat_run.specs.Logged.{AllRan, HasRun}
+use Rattle.sj_seat_run.specs.Asked.{protocols_in}
+use Rattle.sj_seat_run.specs.Logged.{AllRan, AllRanSo, AreOpenedSo, HasRun, sessions_in}
 use Rattle.sj_seat_run.specs.Played.{Played}
-use Rattle.sj_seat_run.specs.Runners.{AreSeated, HasBegun, HasTakenPart, IsFirstGuest, is_coded, worker_at}
+use Rattle.sj_seat_run.specs.Runners.{AreSeated, HasBegun, HasTakenPart, IsFirstGuest, is_coded, lists_of, opened_at, worker_at}
 use Rattle.sj_seat_run.specs.declared.runners.Runner.{Runner}
 use Rattle.sj_seat_run.specs.declared.runners.Runner.TheVariants.{Coded, Written}
 use Rattle.sj_seat_run.proofs.BegunLemmas.{first_is, in_where, out_where, seat_begins}
 use Rattle.sj_seat_run.proofs.CarriedLemmas.{Carried, played_carried, same_length, worked_carried}
+
+-- the list of a party is that of its number
+list_at : (all : List (Vec OpenedSession)) (p : ℕ) (own : List OpenedSession) (e : EndId) → slice_get (lists_of all) p ≡ Some own → opened_by all p e ≡ protocol_in own e
+list_at all p own e is =
+    let r = mapped_from (λ (v : Vec OpenedSession). v.items) all p own is in
+    ap (λ (o : Option (Vec OpenedSession)). protocol_of o e) r.1 ∙ ap (λ (ss : List OpenedSession). protocol_in ss e) r.2
 
 module _ {O I G C : Type 0} (outward : OutLane O) (inward : InLane I) (joined : O → I → Type 0)
     (later : (o p : O) (i j : I) → joined o i → outward.same o p → inward.same i j → joined p j)
@@ -68,22 +79,32 @@ module _ {O I G C : Type 0} (outward : OutLane O) (inward : InLane I) (joined : 
       subst (λ (s : SeatedAt). SeatWork outward inward file s (seat_of [] h) (worker_of g) (worker_of h)) (seat_begins file t p own g (x.calls []) first)
       (x.went file [] (sym first.begins.parties))
 
+  -- what it did, with the sessions that are listed of it
+  record Listed (p : ℕ) (w : Worker O I) (own : List OpenedSession) (coded : Bool) : Type 0 where
+    pub run : HasRun outward inward file looks tells coded p w
+    pub lists : sessions_in outward inward file looks tells p w coded run ≡ own
+
   run_of : (p : ℕ) (own : Lanes O I) (old new : Runner O I G C) → slice_get lanes p ≡ Some own → HasBegun file t p own old → HasTakenPart outward inward looks old new
-      → HasRun outward inward file looks tells (is_coded new) p (worker_at new)
+      → Listed p (worker_at new) (opened_at new) (is_coded new)
   run_of p own (Written w) (Written x) there first part =
-      record { old = w; first = first_is file t p own w first; new = are_new p own w there first.lanes; worked = part }
+      record { run = record { old = w; first = first_is file t p own w first; new = are_new p own w there first.lanes; worked = part }; lists = refl }
   run_of p own (Written w) (Coded b) there first part = absurd part
   run_of p own (Coded a) (Written x) there first part = absurd part
   run_of p own (Coded a) (Coded b) there first part =
       record {
-        old = worker_of a.guest;
-        begins = first.begins;
-        idle = first.idle;
-        new = are_new p own (worker_of a.guest) there first.lanes;
-        calls = part.calls [];
-        seat = seat_of [] b.guest;
-        work = seat_work p own a.guest b.guest first part;
-        counts = part.counts;
+        run = record {
+          old = worker_of a.guest;
+          begins = first.0.begins;
+          idle = first.0.idle;
+          new = are_new p own (worker_of a.guest) there first.0.lanes;
+          calls = part.played.calls [];
+          seat = seat_of [] b.guest;
+          work = seat_work p own a.guest b.guest first.0 part.played;
+          counts = part.played.counts;
+          sessions = part.sessions;
+          asked = part.asked [] ∙ append-nil (protocols_in part.sessions);
+        };
+        lists = sym (part.listed ∙ ap (λ ss. ss ++ part.sessions) first.1);
       }
 
   past_of : (p : ℕ) (own : Lanes O I) (old new : Runner O I G C) → slice_get lanes p ≡ Some own → HasBegun file t p own old → HasTakenPart outward inward looks old new
@@ -97,8 +118,8 @@ module _ {O I G C : Type 0} (outward : OutLane O) (inward : InLane I) (joined : 
         old = worker_of a.guest;
         own = own;
         there = there;
-        lanes_are = first.lanes;
-        carried = played_carried outward inward file (seat_start file p (part.calls [])) (seat_of [] b.guest) (worker_of a.guest) (worker_of b.guest) (seat_work p own a.guest b.guest first part) part.counts;
+        lanes_are = first.0.lanes;
+        carried = played_carried outward inward file (seat_start file p (part.played.calls [])) (seat_of [] b.guest) (worker_of a.guest) (worker_of b.guest) (seat_work p own a.guest b.guest first.0 part.played) part.played.counts;
       }
 
   coded_still : (old new : Runner O I G C) → HasTakenPart outward inward looks old new → is_coded new ≡ is_coded old
@@ -115,7 +136,9 @@ module _ {O I G C : Type 0} (outward : OutLane O) (inward : InLane I) (joined : 
 
   -- what a worker comes of
   record Source (p : ℕ) (w : Worker O I) : Type 0 where
-    pub run : HasRun outward inward file looks tells (seats p) p w
+    pub came : Runner O I G C
+    pub at : slice_get ran p ≡ Some came
+    pub listed : Listed p w (opened_at came) (seats p)
     pub past : Past p w
 
   source : (p : ℕ) (w : Worker O I) → slice_get workers p ≡ Some w → Source p w
@@ -124,7 +147,13 @@ module _ {O I G C : Type 0} (outward : OutLane O) (inward : InLane I) (joined : 
       let h = there_is hired p (let lt = below_length ran p r.0 r.1 in omega (arith, lt, as_many)) in
       let b = seated.each p h.0 h.1 in
       let part = each p h.0 r.0 h.1 r.1 in
-      subst (λ (v : Worker O I). Source p v) r.2 (record { run = subst (λ (s : Bool). HasRun outward inward file looks tells s p (worker_at r.0)) (coded_is p r.0 r.1) (run_of p b.0 h.0 r.0 b.1 b.2 part); past = past_of p b.0 h.0 r.0 b.1 b.2 part })
+      subst (λ (v : Worker O I). Source p v) r.2
+      (record {
+        came = r.0;
+        at = r.1;
+        listed = subst (λ (s : Bool). Listed p (worker_at r.0) (opened_at r.0) s) (coded_is p r.0 r.1) (run_of p b.0 h.0 r.0 b.1 b.2 part);
+        past = past_of p b.0 h.0 r.0 b.1 b.2 part;
+      })
 
   all_count : length workers ≡ length file.parties
   all_count = length-map ran worker_at ∙ as_many ∙ seated.count ∙ many
@@ -157,13 +186,23 @@ module _ {O I G C : Type 0} (outward : OutLane O) (inward : InLane I) (joined : 
       later first_out.0 o first_in.0 i
       (ends p q first_out.0 first_in.0 (out_lane p q a.own a.old first_out.0 a.there a.lanes_are first_out.1) (in_lane q p b.own b.old first_in.0 b.there b.lanes_are first_in.1)) first_out.2 first_in.2
 
-  pub all_ran : AllRan outward inward joined file looks tells seats workers
+  abbrev all_ran : AllRan outward inward joined file looks tells seats workers
   all_ran = record {
     count = all_count;
     square = is_square;
     ends = all_joined;
-    each = λ p w at. (source p w at).run;
+    each = λ p w at. (source p w at).listed.run;
   }
+
+  -- each opened its sessions as is listed of it
+  all_so : (all : List (Vec OpenedSession)) → lists_of all ≡ map opened_at ran → AreOpenedSo outward inward joined file looks tells seats workers all_ran (opened_by all)
+  all_so all same p w at e =
+      let s = source p w at in
+      list_at all p (opened_at s.came) e (ap (λ (ls : List (List OpenedSession)). slice_get ls p) same ∙ mapped_at opened_at ran p s.came s.at)
+      ∙ ap (λ (ss : List OpenedSession). protocol_in ss e) (sym s.listed.lists)
+
+  pub ran_so : (all : List (Vec OpenedSession)) → lists_of all ≡ map opened_at ran → AllRanSo outward inward joined file looks tells seats workers (opened_by all)
+  ran_so all same = record { ran = all_ran; so = all_so all same }
 
   -- so the codes that are left are those of the same parties
   pub same_seats : (p : ℕ) → p < length file.parties → seat_in (map is_coded ran) p ≡ seats p

@@ -1,4 +1,5 @@
 pub mod Seats
+pub mod Asked
 pub mod Runners
 pub mod Logged
 pub mod Played

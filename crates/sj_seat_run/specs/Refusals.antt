@@ -18,7 +18,7 @@ use Rattle.sj_seats.specs.Calls.{OpenedAs}
 use Rattle.sj_seats.specs.Replaying.{IsStop}
 use Rattle.sj_work.specs.declared.worker.Stop.TheVariants as stops
 use Rattle.sj_work.specs.declared.worker.Worker.{Worker}
-use Rattle.sj_seat_run.specs.Logged.{AllRan}
+use Rattle.sj_seat_run.specs.Logged.{AllRan, AreOpenedSo}
 use Rattle.sj_seat_run.specs.declared.refusal.SeatedRefusal.{SeatedRefusal}
 use Rattle.sj_seat_run.specs.declared.refusal.SeatedRefusal.TheVariants as refusals
 
@@ -60,7 +60,7 @@ module _ {O I : Type 0} (outward : OutLane O) (inward : InLane I) (joined : O �
     pub joins : IsJoined (logs_in workers) lines
 
   -- of such lines that is the first which isn't the one that is due, where the parties of the file
-  -- with a seat call what the lines tell, and open their sessions as these
+  -- with a seat call what the lines tell, and opened their sessions as they asked for them
   pub record IsDamageOver (m : Misfit) : Type 0 where
     pub workers : List (Worker O I)
     pub lines : List LineAt
@@ -69,6 +69,7 @@ module _ {O I : Type 0} (outward : OutLane O) (inward : InLane I) (joined : O �
     pub same : (p : ℕ) → p < length file.parties → seated p ≡ seats p
     pub opened : OpenedAs
     pub stop : IsStop (without_words file) seated opened lines m
+    pub asked : AreOpenedSo outward inward joined file looks tells seats workers logged.ran opened
 
   -- such lines are a history, and some of the workers stopped as unfit
   pub record IsUnfitOver : Type 0 where

@@ -1,5 +1,6 @@
 -- The parties of a run, each by the file or by code: before any event, and at the end.
-use Rattle.std.specs.Prelude.{◌≡◌, ℕ, Bool, true, false, List, length, slice_get, Some, None}
+use Rattle.std.specs.Prelude.{◌≡◌, ℕ, Bool, true, false, List, [], length, map, slice_get, Some, None}
+use Rattle.std.specs.Global.{Vec}
 use Rattle.sj_lang.specs.FileAt.{FileAt}
 use Rattle.sj_lane.specs.declared.lane.Lanes.{Lanes}
 use Rattle.sj_lane.specs.declared.lane.OutLane.{Ghosts as OutLane}
@@ -13,15 +14,25 @@ use Rattle.sj_work.specs.Views.{lanes_of, node_of, stop_of}
 use Rattle.sj_work.specs.Worked.{Worked}
 use Rattle.sj_work.specs.declared.worker.Worker.{Worker}
 use Rattle.sj_seat.specs.declared.guest.Guest.{Guest}
-use Rattle.sj_seat_run.specs.Played.{Played}
+use Rattle.sj_seat.specs.declared.wish.OpenedSession.{OpenedSession}
+use Rattle.sj_seat_run.specs.Played.{PlayedSo}
 use Rattle.sj_seat_run.specs.declared.runners.Runner.{Runner}
 use Rattle.sj_seat_run.specs.declared.runners.Runner.TheVariants.{Coded, Written}
+
+-- the sessions listed of each party
+abbrev pub lists_of : List (Vec OpenedSession) → List (List OpenedSession)
+lists_of all = map (λ (v : Vec OpenedSession). v.items) all
 
 module _ {O I G C : Type 0} where
   -- the party's worker
   abbrev pub worker_at : Runner O I G C → Worker O I
   worker_at (Written w) = w
   worker_at (Coded a) = worker_of a.guest
+
+  -- the sessions that its code opened, as they are listed
+  abbrev pub opened_at : Runner O I G C → List OpenedSession
+  opened_at (Written w) = []
+  opened_at (Coded a) = a.opened.items
 
   -- code plays the party
   abbrev pub is_coded : Runner O I G C → Bool
@@ -45,10 +56,10 @@ pub record IsFirstGuest {O I G : Type 0} (file : FileAt) (t : Table) (p : ℕ) (
   pub idle : stop_of (worker_of g) ≡ None
 
 module _ {O I G C : Type 0} (file : FileAt) (t : Table) where
-  -- the party before any event
+  -- the party before any event, of which no session is listed
   abbrev pub HasBegun : ℕ → Lanes O I → Runner O I G C → Type 0
   HasBegun p own (Written w) = IsFirstWorker file t p own w
-  HasBegun p own (Coded a) = IsFirstGuest file t p own a.guest
+  HasBegun p own (Coded a) = IsFirstGuest file t p own a.guest × (a.opened.items ≡ [])
 
   -- so many parties, each with the lanes of its number, and those with a code that have a seat
   pub record AreSeated (seats : ℕ → Bool) (lanes : List (Lanes O I)) (many : ℕ) (runners : List (Runner O I G C)) : Type 0 where
@@ -62,4 +73,4 @@ module _ {O I G C : Type 0} (outward : OutLane O) (inward : InLane I) where
   HasTakenPart looks (Written w) (Written x) = Worked outward inward looks w x
   HasTakenPart looks (Written w) (Coded b) = ⊥
   HasTakenPart looks (Coded a) (Written x) = ⊥
-  HasTakenPart looks (Coded a) (Coded b) = Played outward inward a.guest b.guest
+  HasTakenPart looks (Coded a) (Coded b) = PlayedSo outward inward a.guest b.guest a.opened.items b.opened.items

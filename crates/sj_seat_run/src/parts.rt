@@ -1,7 +1,9 @@
 //! What each party does on its thread.
-ghost use Rattle.std.specs.Prelude.{◌≡◌, ◌<◌, None, IsFalse, vec_capacity, vec_len};
+ghost use Rattle.std.specs.Prelude.{◌≡◌, ◌<◌, None, IfOk, IsFalse, OnErr, vec_capacity, vec_len};
+ghost use Rattle.sj_seats.specs.Calling.{protocol_asked};
+ghost use Rattle.sj_seat_run.specs.Asked.{Lists};
 ghost use Rattle.sj_seat_run.specs.Runners.{HasTakenPart};
-ghost use Rattle.sj_seat_run.specs.Played.{Played};
+ghost use Rattle.sj_seat_run.specs.Played.{Attends, PlayedSo};
 ghost use Rattle.sj_work.specs.Views.{stop_of};
 ghost use Rattle.sj_work.specs.Worked.{Worked, kept_stop};
 
@@ -65,7 +67,10 @@ fn work_beside<O: OutLane, I: InLane, G: Gate>(
 }
 
 /// The session of that end, as the code opened it.
-fn opened_as(wish: OpenWish, end: EndId) -> OpenedSession {
+fn opened_as(wish: OpenWish, end: EndId) -> OpenedSession
+    ensures end { result.end ≡ end }
+    ensures protocol { result.protocol ≡ protocol_asked wish }
+{
     match wish {
         OpenWish::Request { protocol, .. } => OpenedSession { end, protocol },
         OpenWish::Accept { protocol, .. } => OpenedSession { end, protocol },
@@ -75,6 +80,8 @@ fn opened_as(wish: OpenWish, end: EndId) -> OpenedSession {
 /// Lists the session that the code opened by what it asked for, if any. There is room for it.
 fn list_opened(opened: &mut Vec<OpenedSession>, ask: &Ask, answer: Answer)
     requires room { vec_len opened.old < vec_capacity opened.old }
+    ensures ok { IfOk answer (λ o. Lists ask.now o opened.old.items opened.new.items) }
+    ensures err { OnErr answer (opened.new.items ≡ opened.old.items) }
 {
     if let (Ask::Open(wish), Ok(Outcome::Opened { end })) = (ask, answer) {
         opened.push_reserved(opened_as(*wish, end));
@@ -87,7 +94,7 @@ fn do_ask<O: OutLane, I: InLane, G: Gate>(
     opened: &mut Vec<OpenedSession>,
     ask: &Ask,
 ) -> Answer
-    ensures { Played O.OutLane I.InLane guest.old guest.new }
+    ensures { PlayedSo O.OutLane I.InLane guest.old guest.new opened.old.items opened.new.items }
 {
     if opened.reserve(1).is_err() {
         return Err(SeatRefusal::NoMemory);
@@ -109,7 +116,7 @@ fn play_out<O: OutLane, I: InLane, G: Gate, C: Play>(
     code: &mut C,
     opened: &mut Vec<OpenedSession>,
 )
-    ensures { Played O.OutLane I.InLane guest.old guest.new }
+    ensures { PlayedSo O.OutLane I.InLane guest.old guest.new opened.old.items opened.new.items }
 {
     let mut answer = None;
     for _ in 0..u64::MAX {
@@ -133,7 +140,7 @@ fn attend_while<O: OutLane, I: InLane, G: Gate>(
     turnout: &Turnout,
     looks: u32,
 )
-    ensures { Played O.OutLane I.InLane guest.old guest.new }
+    ensures { Attends O.OutLane I.InLane guest.old guest.new }
 {
     for looked in 0..u64::MAX {
         if stays(guest.worker().stop()) || !turnout.plays(looked) {
@@ -150,7 +157,7 @@ fn attend_beside<O: OutLane, I: InLane, G: Gate>(
     turnout: &Turnout,
     looks: u32,
 )
-    ensures { Played O.OutLane I.InLane guest.old guest.new }
+    ensures { Attends O.OutLane I.InLane guest.old guest.new }
 {
     attend_while(guest, turnout, looks.min(FEW_LOOKS));
     if !stays(guest.worker().stop()) {
@@ -174,7 +181,8 @@ fn play_beside<O: OutLane, I: InLane, G: Gate, C: Play>(
     turnout: &Turnout,
     looks: u32,
 )
-    ensures { Played O.OutLane I.InLane actor.old.guest actor.new.guest }
+    ensures { PlayedSo O.OutLane I.InLane actor.old.guest actor.new.guest
+        actor.old.opened.items actor.new.opened.items }
 {
     wait_for_all(turnout);
     play_out(&mut actor.guest, &mut actor.code, &mut actor.opened);

@@ -1,7 +1,7 @@
 //! What is left of the parties of a run: their workers, their codes, their lanes and their logs.
 ghost use Rattle.std.specs.Prelude.{◌≡◌, IfOk, is_some, map};
 ghost use Rattle.sj_run.specs.Workers.{AreLogs};
-ghost use Rattle.sj_seat_run.specs.Runners.{is_coded, worker_at};
+ghost use Rattle.sj_seat_run.specs.Runners.{is_coded, lists_of, opened_at, worker_at};
 ghost use Rattle.sj_work.specs.Views.{lanes_of};
 
 use crate::runners::Runner;
@@ -34,6 +34,7 @@ pub(crate) fn stand_up<O: OutLane, I: InLane, G, C: Drop>(
 ) -> Result<Parties<O, I, C>, NoMemory>
     ensures workers { IfOk result (λ r. r.workers.items ≡ map worker_at runners.entry.items) }
     ensures codes { IfOk result (λ r. map is_some r.codes.items ≡ map is_coded runners.entry.items) }
+    ensures opened { IfOk result (λ r. lists_of r.opened.items ≡ map opened_at runners.entry.items) }
 {
     let mut workers = Vec::new(alloc);
     let mut codes = Vec::new(alloc);

@@ -1,6 +1,6 @@
 //! The parties of a run, each by the file or by code.
 ghost use Rattle.std.specs.Prelude.{◌≡◌, is_some};
-ghost use Rattle.sj_seat_run.specs.Runners.{is_coded, worker_at};
+ghost use Rattle.sj_seat_run.specs.Runners.{is_coded, opened_at, worker_at};
 
 use sj_seat::{Guest, OpenedSession};
 use sj_work::Worker;
@@ -31,6 +31,7 @@ impl<O, I, G, C> Runner<'_, O, I, G, C> {
     pub fn into_parts(self, alloc: Global) -> (Worker<O, I>, Option<C>, Vec<OpenedSession>)
         ensures worker { result.0 ≡ worker_at self.entry }
         ensures code { is_some result.1 ≡ is_coded self.entry }
+        ensures opened { result.2.items ≡ opened_at self.entry }
     {
         match self {
             Runner::Written(worker) => (worker, None, Vec::new(alloc)),

@@ -1,5 +1,6 @@
 //! A file run with seats.
 ghost use Rattle.std.specs.Prelude.{◌≡◌, ◌≤◌, Err, IfErr, IfOk, ℕ, length, map, max};
+ghost use Rattle.sj_base.specs.declared.EndId.{EndId};
 ghost use Rattle.sj_check.specs.Held.{file_in as held};
 ghost use Rattle.sj_lane.specs.Told.{Rose};
 ghost use Rattle.sj_end.specs.Lines.{line_at};
@@ -9,9 +10,9 @@ ghost use Rattle.sj_plain.specs.SharedFile.{without_words};
 ghost use Rattle.sj_seat_told_laws.specs.SeatsHistory.{IsSeatsHistory};
 ghost use Rattle.sj_seat.specs.Places.{CarriesPlaces};
 ghost use Rattle.sj_seats.specs.Openings.{opened_by};
-ghost use Rattle.sj_seats.specs.Seated.{callers_of, core_of, history_of, kept_file, party_count, seats_of};
+ghost use Rattle.sj_seats.specs.Seated.{callers_of, core_of, history_of, kept_file, opened_of, party_count, seats_of};
 ghost use Rattle.sj_table.specs.Spots.{start_in};
-ghost use Rattle.sj_seat_run.specs.Logged.{AreLoggedBy};
+ghost use Rattle.sj_seat_run.specs.Logged.{AreAskedBy, AreLoggedBy};
 ghost use Rattle.sj_seat_run.specs.Refusals.{IsOfReplay, IsOfTable, IsRefusedOver};
 ghost use Rattle.sj_seat_run.specs.Seats.{HasSameSeats, seats_by};
 
@@ -70,6 +71,7 @@ fn seated_world<C>(
     ensures kept { IfOk result (λ w. kept_file w ≡ without_words (file_of (held accepted.now))) }
     ensures history { IfOk result (λ w. history_of w ≡ map line_at lines.items) }
     ensures seats { IfOk result (λ w. (q : ℕ) → seats_of w q ≡ seats_by codes.now q) }
+    ensures opened { IfOk result (λ w. (q : ℕ) (e : EndId) → opened_of w q e ≡ opened_by opened.items q e) }
     ensures run { IfOk result (λ w. IsSeatsHistory max (kept_file w) (callers_of w) (history_of w) (core_of w)) }
     ensures parties { IfOk result (λ w. party_count w ≡ length (kept_file w).parties) }
     ensures cause { IfErr result (IsOfReplay (file_of (held accepted.now)) (seats_by codes.now)
@@ -117,6 +119,11 @@ pub fn run_seated<R: Threads + Sync, L: Links, G: Gate, C: Play + Send + Drop>(
     ensures logged { IfOk result (λ r. AreLoggedBy L.Out.OutLane L.In.InLane L.joined
         (file_of (held accepted.now)) looks (L.tells links.old) (seats_by codes.items)
         (history_of r.world)) }
+
+    // So it is, and as which protocols the world has codes' sessions is as the codes asked for them.
+    ensures asked { IfOk result (λ r. AreAskedBy L.Out.OutLane L.In.InLane L.joined
+        (file_of (held accepted.now)) looks (L.tells links.old) (seats_by codes.items)
+        (history_of r.world) (opened_of r.world)) }
 
     // A fault comes only where the links counted one. Damage and what is unfit are in the joined
     // logs of such workers, of which none stopped at a fault.

@@ -5,10 +5,11 @@ ghost use Rattle.sj_lane.specs.Told.{Rose};
 ghost use Rattle.sj_lang.specs.FileAt.{body_named};
 ghost use Rattle.sj_lang.specs.FileView.{file_of};
 ghost use Rattle.sj_seat.specs.Places.{CarriesPlaces};
-ghost use Rattle.sj_seat_run.specs.Logged.{AllRan};
+ghost use Rattle.sj_seat_run.specs.Logged.{AllRanSo};
 ghost use Rattle.sj_seat_run.specs.Refusals.{IsEarly};
 ghost use Rattle.sj_seat_run.specs.Runners.{HasTakenPart};
 ghost use Rattle.sj_seat_run.specs.Seats.{HasSameSeats, seats_by};
+ghost use Rattle.sj_seats.specs.Openings.{opened_by};
 ghost use Rattle.sj_table.specs.Spots.{start_in};
 
 use crate::hires::{lanes_for, take_seats};
@@ -78,9 +79,9 @@ pub(crate) fn run_all<R: Threads + Sync, L: Links, G: Gate, C: Play + Send + Dro
     requires starts { (p : ℕ) → start_in table.now p
         ≡ body_named (file_of (held accepted.now)).protocols p }
     requires carries { CarriesPlaces table.now }
-    ensures ran { IfOk result (λ r. AllRan L.Out.OutLane L.In.InLane L.joined
+    ensures ran { IfOk result (λ r. AllRanSo L.Out.OutLane L.In.InLane L.joined
         (file_of (held accepted.now)) looks (L.tells links.old) (seats_by codes.items)
-        r.workers.items) }
+        r.workers.items (opened_by r.opened.items)) }
     ensures codes { IfOk result (λ r. HasSameSeats (length (file_of (held accepted.now)).parties)
         codes.items r.codes.items) }
     ensures few { IfOk result (λ r. length r.workers.items ≤ 16) }

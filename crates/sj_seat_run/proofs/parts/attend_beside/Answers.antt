@@ -3,7 +3,7 @@ use Rattle.sj_seat.specs.Views.{worker_of}
 use Rattle.sj_work.proofs.LaneLaws.{laws}
 use Rattle.sj_work.specs.Views.{stop_of}
 use Rattle.sj_work.specs.Worked.{kept_stop}
-use Rattle.sj_seat_run.proofs.PlayedLemmas.{played_rest, played_then}
+use Rattle.sj_seat_run.proofs.PlayedLemmas.{attends_then}
 use Rattle.sj_seat_run.proofs.parts.attend_beside.Goals as goal
 
 pub returns-then-not-stays : goal.returns-then-not-stays
@@ -15,4 +15,4 @@ returns-then-not-stays g c =
     let m = c.attend.new.self in
     let h = c.attend.ensures in
     let kept : kept_stop (stop_of (worker_of l)) ≡ None = ap kept_stop (sym (c.stop.ensures ∙ ap stop_of c.worker.ensures)) ∙ c.stays.ensures c.if-not-stays.true in
-    played_then k c.args.guest.now l m kept c.attend_while.ensures (played_rest k l m h.went h.keeps h.counts)
+    attends_then k c.args.guest.now l m kept c.attend_while.ensures (record { went = h.went; keeps = h.keeps; counts = h.counts })

@@ -3,7 +3,7 @@ use Rattle.sj_seat.specs.Views.{worker_of}
 use Rattle.sj_work.proofs.LaneLaws.{laws}
 use Rattle.sj_work.specs.Views.{stop_of}
 use Rattle.sj_work.specs.Worked.{kept_stop}
-use Rattle.sj_seat_run.proofs.PlayedLemmas.{played_then}
+use Rattle.sj_seat_run.proofs.PlayedLemmas.{so_attends}
 use Rattle.sj_seat_run.proofs.parts.play_beside.Goals as goal
 
 pub returns-then-not-stays : goal.returns-then-not-stays
@@ -13,4 +13,4 @@ returns-then-not-stays g c =
     let k = laws g.O.OutLane g.I.InLane ol.same_itself ol.same_later il.same_itself il.same_later in
     let l = c.play_out.new.guest in
     let kept : kept_stop (stop_of (worker_of l)) ≡ None = ap kept_stop (sym (c.stop.ensures ∙ ap stop_of c.worker.ensures)) ∙ c.stays.ensures c.if-not-stays.true in
-    played_then k c.args.actor.now.guest l c.attend_beside.new.guest kept c.play_out.ensures c.attend_beside.ensures
+    so_attends k c.args.actor.now.guest l c.attend_beside.new.guest c.args.actor.now.opened.items c.play_out.new.opened.items kept c.play_out.ensures c.attend_beside.ensures

@@ -21,11 +21,11 @@ use Rattle.sj_seat_run.proofs.runs.run_seated.Goals as goal
 
 pub back-requires-clause-square : goal.back-requires-clause-square
 back-requires-clause-square g c =
-    subst (λ (ls : List (Lanes g.row.L-Out.Denot g.row.L-In.Denot)). IsSquare ls) (sym c.in_ok-remains.ensures.lanes) c.in_ok-parties.ensures.ran.square
+    subst (λ (ls : List (Lanes g.row.L-Out.Denot g.row.L-In.Denot)). IsSquare ls) (sym c.in_ok-remains.ensures.lanes) c.in_ok-parties.ensures.ran.ran.square
 
 pub back-requires-clause-joined : goal.back-requires-clause-joined
 back-requires-clause-joined g c =
-    subst (λ (ls : List (Lanes g.row.L-Out.Denot g.row.L-In.Denot)). AllJoined g.L.Links.joined ls) (sym c.in_ok-remains.ensures.lanes) c.in_ok-parties.ensures.ran.ends
+    subst (λ (ls : List (Lanes g.row.L-Out.Denot g.row.L-In.Denot)). AllJoined g.L.Links.joined ls) (sym c.in_ok-remains.ensures.lanes) c.in_ok-parties.ensures.ran.ran.ends
 
 pub join_logs-requires-clause-parties : goal.join_logs-requires-clause-parties
 join_logs-requires-clause-parties g c =
@@ -37,7 +37,7 @@ pub join_logs-requires-clause-order : goal.join_logs-requires-clause-order
 join_logs-requires-clause-order g c =
     logs_ordered c.in_ok-parties.parties.workers.items c.in_ok-remains.remains.logs.items c.in_ok-remains.ensures.logs
     (all_rising g.L.Out.OutLane g.L.In.InLane (file_of (file_in c.args.accepted.now)) c.args.looks (g.L.Links.tells c.args.links.now) g.L.Links.joined (seats_by c.args.codes.items)
-    c.in_ok-parties.parties.workers.items c.in_ok-parties.ensures.ran)
+    c.in_ok-parties.parties.workers.items c.in_ok-parties.ensures.ran.ran)
 
 pub returns-then-faulty-clause-link_fault : goal.returns-then-faulty-clause-link_fault
 returns-then-faulty-clause-link_fault g c =
@@ -46,7 +46,7 @@ returns-then-faulty-clause-link_fault g c =
     (c.back.ensures.raised
     (subst (λ (ls : List (Lanes g.row.L-Out.Denot g.row.L-In.Denot)). HasFault g.L.Out.OutLane.faults g.L.In.InLane.faults ls) (sym c.in_ok-remains.ensures.lanes)
     (has_fault g.L.Out.OutLane g.L.In.InLane (file_of (file_in c.args.accepted.now)) c.args.looks (g.L.Links.tells c.args.links.now) g.L.Links.joined (seats_by c.args.codes.items)
-    c.in_ok-parties.parties.workers.items c.in_ok-parties.ensures.ran
+    c.in_ok-parties.parties.workers.items c.in_ok-parties.ensures.ran.ran
     (subst (λ (ws : List (Worker g.row.L-Out.Denot g.row.L-In.Denot)). SomeStopped ws stops.Fault) c.deref.ensures.value (c.if-faulty.ensures.some refl)))))
 
 pub returns-clause-logged : goal.returns-clause-logged
@@ -54,13 +54,30 @@ returns-clause-logged g c =
     let workers = c.in_ok-parties.parties.workers.items in
     record {
       workers = workers;
-      ran = c.in_ok-parties.ensures.ran;
+      ran = c.in_ok-parties.ensures.ran.ran;
       faultless = subst (λ (ws : List (Worker g.row.L-Out.Denot g.row.L-In.Denot)). NoneStopped ws stops.Fault) c.deref.ensures.value (c.if-faulty.ensures.none refl);
       fits = subst (λ (ws : List (Worker g.row.L-Out.Denot g.row.L-In.Denot)). NoneStopped ws stops.Unfit) c.deref-2.ensures.value (c.if-unfit.ensures.none refl);
       remembers = subst (λ (ws : List (Worker g.row.L-Out.Denot g.row.L-In.Denot)). NoneStopped ws stops.NoMemory) c.deref-3.ensures.value (c.if-short.ensures.none refl);
       joins =
           subst (λ (ls : List LineAt). IsJoined (logs_in workers) ls) (sym c.in-Ok.ensures.history)
           (logs_joined workers c.in_ok-remains.remains.logs.items c.in_ok-remains.ensures.logs (map line_at c.in_ok-lines.lines.items) c.in_ok-lines.ensures);
+    }
+
+pub returns-clause-asked : goal.returns-clause-asked
+returns-clause-asked g c =
+    let workers = c.in_ok-parties.parties.workers.items in
+    record {
+      logged = record {
+        workers = workers;
+        ran = c.in_ok-parties.ensures.ran.ran;
+        faultless = subst (λ (ws : List (Worker g.row.L-Out.Denot g.row.L-In.Denot)). NoneStopped ws stops.Fault) c.deref.ensures.value (c.if-faulty.ensures.none refl);
+        fits = subst (λ (ws : List (Worker g.row.L-Out.Denot g.row.L-In.Denot)). NoneStopped ws stops.Unfit) c.deref-2.ensures.value (c.if-unfit.ensures.none refl);
+        remembers = subst (λ (ws : List (Worker g.row.L-Out.Denot g.row.L-In.Denot)). NoneStopped ws stops.NoMemory) c.deref-3.ensures.value (c.if-short.ensures.none refl);
+        joins =
+            subst (λ (ls : List LineAt). IsJoined (logs_in workers) ls) (sym c.in-Ok.ensures.history)
+            (logs_joined workers c.in_ok-remains.remains.logs.items c.in_ok-remains.ensures.logs (map line_at c.in_ok-lines.lines.items) c.in_ok-lines.ensures);
+      };
+      so = λ p w at e. c.in-Ok.ensures.opened p e ∙ c.in_ok-parties.ensures.ran.so p w at e;
     }
 
 pub returns-clause-seats : goal.returns-clause-seats
@@ -76,11 +93,12 @@ returns-in-Err-clause-cause g c =
     replay_cause g.L.Out.OutLane g.L.In.InLane g.L.Links.joined
     (file_of (file_in c.args.accepted.now)) c.args.looks (g.L.Links.tells c.args.links.now) (seats_by c.args.codes.items) workers (map line_at c.in_ok-lines.lines.items) (seats_by c.deref-4.result.now) (opened_by c.in_ok-parties.parties.opened.items) c.in-Err.refusal
     (record {
-      ran = c.in_ok-parties.ensures.ran;
+      ran = c.in_ok-parties.ensures.ran.ran;
       faultless = subst (λ (ws : List (Worker g.row.L-Out.Denot g.row.L-In.Denot)). NoneStopped ws stops.Fault) c.deref.ensures.value (c.if-faulty.ensures.none refl);
       joins = logs_joined workers c.in_ok-remains.remains.logs.items c.in_ok-remains.ensures.logs (map line_at c.in_ok-lines.lines.items) c.in_ok-lines.ensures;
     })
     (λ p lt. ap (λ cs. seats_by cs p) c.deref-4.ensures.value ∙ c.in_ok-parties.ensures.codes.each p lt)
+    c.in_ok-parties.ensures.ran.so
     c.in-Err.ensures.cause
 
 pub returns-then-unfit-clause-cause : goal.returns-then-unfit-clause-cause
@@ -92,7 +110,7 @@ returns-then-unfit-clause-cause g c =
       workers = workers;
       lines = lines;
       logged = record {
-        ran = c.in_ok-parties.ensures.ran;
+        ran = c.in_ok-parties.ensures.ran.ran;
         faultless = subst (λ (ws : List (Worker g.row.L-Out.Denot g.row.L-In.Denot)). NoneStopped ws stops.Fault) c.deref.ensures.value (c.if-faulty.ensures.none refl);
         joins = logs_joined workers c.in_ok-remains.remains.logs.items c.in_ok-remains.ensures.logs lines c.in_ok-lines.ensures;
       };

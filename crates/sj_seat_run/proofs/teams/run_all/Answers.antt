@@ -5,12 +5,13 @@ use Rattle.sj_check.specs.Held.{file_in}
 use Rattle.sj_lang.specs.FileView.{file_of, party_of}
 use Rattle.sj_lang.specs.declared.file.File.{File}
 use Rattle.sj_work.specs.declared.worker.Worker.{Worker}
-use Rattle.sj_seat_run.specs.Logged.{AllRan}
-use Rattle.sj_seat_run.specs.Runners.{HasTakenPart, is_coded, worker_at}
+use Rattle.sj_seat_run.specs.Logged.{AllRanSo}
+use Rattle.sj_seat_run.specs.Runners.{HasTakenPart, is_coded, opened_at, worker_at}
 use Rattle.sj_seat_run.specs.Seats.{seats_by}
+use Rattle.sj_seats.specs.Openings.{opened_by}
 use Rattle.sj_seats.specs.Seated.{seat_in}
 use Rattle.sj_seat_run.proofs.ListLemmas.{each_at, take_front}
-use Rattle.sj_seat_run.proofs.RunnerLemmas.{all_ran, same_seats}
+use Rattle.sj_seat_run.proofs.RunnerLemmas.{ran_so, same_seats}
 use Rattle.sj_seat_run.proofs.teams.run_all.Goals as goal
 
 pub take_seats-requires-clause-count : goal.take_seats-requires-clause-count
@@ -27,12 +28,13 @@ returns-clause-ran g c =
     let many : length lanes ≡ length file.parties = omega (arith, made.square.0, length-map (file_in c.args.accepted.now).parties.items party_of, c.len-parties.ensures, ap (λ (f : File). length f.parties.items) c.file.ensures.value, (file_in c.args.accepted.now).parties.ok, c.in_ok-lanes.lanes.ok) in
     let as_many : length ran ≡ length hired = c.set_off.ensures.length ∙ ap length c.deref_mut.ensures.value in
     let whole = take_front ran (drop (length ran) hired) c.in_ok-runners.runners.len (omega (arith, as_many, c.in_ok-runners.runners.ok)) in
-    subst (λ (ws : List (Worker g.row.L-Out.Denot g.row.L-In.Denot)). AllRan g.L.Out.OutLane g.L.In.InLane g.L.Links.joined file c.args.looks (g.L.Links.tells c.args.links.now) (seats_by c.args.codes.items) ws)
+    subst (λ (ws : List (Worker g.row.L-Out.Denot g.row.L-In.Denot)). AllRanSo g.L.Out.OutLane g.L.In.InLane g.L.Links.joined file c.args.looks (g.L.Links.tells c.args.links.now) (seats_by c.args.codes.items) ws (opened_by c.in_ok-parties.parties.opened.items))
     (sym (c.in_ok-parties.ensures.workers ∙ ap (map worker_at) whole))
-    (all_ran g.L.Out.OutLane g.L.In.InLane g.L.Links.joined g.met.L.Links.joined_later
+    (ran_so g.L.Out.OutLane g.L.In.InLane g.L.Links.joined g.met.L.Links.joined_later
     file c.args.table.now c.args.looks (g.L.Links.tells c.args.links.now) lanes hired ran made.square.1 many made.joined made.fresh made.faultless (seats_by c.args.codes.items) c.in_ok-runners.ensures as_many
     (λ p old new before there.
-    each_at (HasTakenPart g.L.Out.OutLane g.L.In.InLane c.args.looks) _ ran c.set_off.ensures.each p old new (ap (λ rs. slice_get rs p) c.deref_mut.ensures.value ∙ before) there))
+    each_at (HasTakenPart g.L.Out.OutLane g.L.In.InLane c.args.looks) _ ran c.set_off.ensures.each p old new (ap (λ rs. slice_get rs p) c.deref_mut.ensures.value ∙ before) there)
+    c.in_ok-parties.parties.opened.items (c.in_ok-parties.ensures.opened ∙ ap (map opened_at) whole))
 
 pub returns-clause-codes : goal.returns-clause-codes
 returns-clause-codes g c =
