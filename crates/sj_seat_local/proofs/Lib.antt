@@ -1,3 +1,6 @@
+mod BeforeLemmas
+mod PartyLemmas
 mod PlayedLemmas
+mod SeatedLemmas
 mod SendLemmas
 mod VerdictLemmas

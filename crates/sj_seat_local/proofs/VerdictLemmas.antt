@@ -1,5 +1,5 @@
 -- Statuses that are no verdict's.
-use Rattle.std.proofs.Common.{◌≡◌, ℕ, ◌<◌, arith}
+use Rattle.std.proofs.Common.{◌≡◌, arith}
 use Rattle.sj_semantics.specs.declared.Verdict.{Verdict}
 use Rattle.sj_semantics.specs.declared.Verdict.TheVariants as verdicts
 use Rattle.sj_tool.specs.Texts.{verdict_status}
@@ -41,6 +41,30 @@ pub none_of_11 : IsVerdict 11 → ⊥
 none_of_11 (v, ends) = by v ends
   where
     by : (v : Verdict) → 11 ≡ verdict_status v → ⊥
+    by verdicts.Done e = absurd (omega (arith, e))
+    by verdicts.Blocked e = absurd (omega (arith, e))
+    by verdicts.Long e = absurd (omega (arith, e))
+
+pub none_of_3 : IsVerdict 3 → ⊥
+none_of_3 (v, ends) = by v ends
+  where
+    by : (v : Verdict) → 3 ≡ verdict_status v → ⊥
+    by verdicts.Done e = absurd (omega (arith, e))
+    by verdicts.Blocked e = absurd (omega (arith, e))
+    by verdicts.Long e = absurd (omega (arith, e))
+
+pub none_of_12 : IsVerdict 12 → ⊥
+none_of_12 (v, ends) = by v ends
+  where
+    by : (v : Verdict) → 12 ≡ verdict_status v → ⊥
+    by verdicts.Done e = absurd (omega (arith, e))
+    by verdicts.Blocked e = absurd (omega (arith, e))
+    by verdicts.Long e = absurd (omega (arith, e))
+
+pub none_of_14 : IsVerdict 14 → ⊥
+none_of_14 (v, ends) = by v ends
+  where
+    by : (v : Verdict) → 14 ≡ verdict_status v → ⊥
     by verdicts.Done e = absurd (omega (arith, e))
     by verdicts.Blocked e = absurd (omega (arith, e))
     by verdicts.Long e = absurd (omega (arith, e))

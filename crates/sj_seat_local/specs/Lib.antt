@@ -1,1 +1,4 @@
+pub mod Before
+pub mod Parties
 pub mod Played
+pub mod Seated

@@ -1,5 +1,5 @@
 -- What playing a party by lines writes at last, and its status.
-use Rattle.std.specs.Prelude.{◌≡◌, ◌⊎◌, ℕ, List, Option, IfSome, Result, Ok}
+use Rattle.std.specs.Prelude.{◌≡◌, ◌⊎◌, ℕ, List, Option, Some, None, Result, Ok}
 use Rattle.sj_base.specs.Stream.{put_behind}
 use Rattle.sj_lang.specs.FileAt.{FileAt}
 use Rattle.sj_seat_end.specs.Alone.{is_party}
@@ -19,9 +19,10 @@ IsVerdict status = (v : Verdict) × (status ≡ verdict_status v)
 abbrev pub SaidSo : (before after : Option (List ℕ)) → List ℕ → (wanted status : ℕ) → Type 0
 SaidSo before after text wanted status = ((status ≡ wanted) × (after ≡ put_behind before text)) ⊎ (status ≡ write_fault_status)
 
--- the text is what was written last, where the sink came back and reports that
+-- the sink came back, and the text is what was written there last, where it reports that
 abbrev pub IsLast : {K : Type 0} → (written : K → Option (List ℕ)) → Option K → List ℕ → Type 0
-IsLast written out text = IfSome out (λ k. (before : Option (List ℕ)) × (written k ≡ put_behind before text))
+IsLast written None text = ⊥
+IsLast written (Some k) text = (before : Option (List ℕ)) × (written k ≡ put_behind before text)
 
 -- that transcript was written after what was there, and the status is that of its verdict
 pub record IsToldSo (before after : Option (List ℕ)) (told : Result Told TranscriptRefusal) (status : ℕ) : Type 0 where

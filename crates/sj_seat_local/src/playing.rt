@@ -37,7 +37,7 @@ pub struct Played<K> {
 }
 
 /// Nothing came back.
-fn lost<K>(status: u8) -> Played<K>
+pub(crate) fn lost<K>(status: u8) -> Played<K>
     ensures { result.status ≡ status }
 {
     Played { status, out: None }

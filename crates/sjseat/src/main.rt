@@ -37,7 +37,8 @@ fn main(rt: HostRuntime) -> ExitCode {
         Ok(Some(words)) => {
             let src = ReadSource::new(rt.stdin());
             let party = words.party.as_bytes();
-            ExitCode::from(seat_local(&rt, rt.alloc(), party, words.patience, src, out))
+            let played = seat_local(&rt, rt.alloc(), party, words.patience, src, out);
+            ExitCode::from(played.status)
         }
         Ok(None) => ExitCode::from(said(&mut out, USAGE, 1)),
         Err(NoMemory) => ExitCode::from(NO_MEMORY),

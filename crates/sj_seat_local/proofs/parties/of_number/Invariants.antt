@@ -1,0 +1,6 @@
+use Rattle.sj_lang.specs.FileView.{file_of}
+use Rattle.sj_seat_local.specs.Parties.{IsNone, IsNumberOf}
+use Rattle.sj_seat_local.proofs.parties.of_number.Given as goal
+
+abbrev pub invariant-loop-party : goal.invariant-loop-party
+invariant-loop-party l = IsNone (IsNumberOf (file_of l.file) l.word) l.party
