@@ -8,10 +8,9 @@ import re
 import sys
 from calls import TOP, VERDICTS, answer, arguments, program, spread, stands, talk
 from files import accepted, seeded
-from talks import CONNECT, OPENS, PARTY, line_of
+from talks import CONNECT, PARTY, line_of
 
 SJSEAT = program("sjseat")
-NONE = b"no transcript: a session was opened"
 RULES = [b"it has none of the forms of a line", b"an end isn't held", b"the place of the end begins otherwise", b"the end can't be sent there, or the name is in use",
          b"what is sent is of another kind", b"at a limit", None, b"no such session may be opened"]
 EVENT = re.compile(rb"[0-9]+ (\w+) (send|take|close|request|accept) ([0-9]+(?:\.[01])?)(?: (.*))?")
@@ -20,7 +19,16 @@ WRONG = [(b"sing x", 1), (b"send  x 5", 1), (b"send x 05", 1), (b"", 1), (b"ends
          (b"delegate nowhere nowhere", 2), (b"ahead nowhere", 2), (b"take any nowhere other", 2), (b"request x nothing to nobody", 8), (b"accept x nothing from nobody", 8)]
 MESSAGE = rb'(?:int -?[0-9]+|boolean (?:true|false)|String "[^"]*"|label \w+|more|stop|session [0-9]+\.[01] \w+ \w+)'
 SAID = re.compile(rb"fine|took \w+ " + MESSAGE + rb"|opened \w+|ends(?: \w+)*|ahead begin.*|waiting|refused ([1-9][0-9]*) G(?:" + b"|".join(b"%d %s" % (n + 1, re.escape(it)) for n, it in enumerate(RULES) if it) + rb")")
-LAST = re.compile(rb"(.*\n)?(done|blocked|long|" + NONE + rb")\n", re.S)
+LAST = re.compile(rb"(.*\n)?(done|blocked|long)\n", re.S)
+OPENED = re.compile(rb"(?m)^session ([0-9]+) (\w+) \w+ (\w+) (\w+|-)$")
+
+
+def by_ends(transcript):
+    """The transcript with the ends of sessions that were opened by session and side, as a run with seats has them."""
+    def ends(it):
+        second = b"-" if it[4] == b"-" else it[1] + b".1"
+        return b"session %s %s %s.0 %s %s" % (it[1], it[2], it[1], it[3], second) if int(it[1]) >= 64 else it[0]
+    return OPENED.sub(ends, transcript)
 
 
 def refused(number, rule):
@@ -128,12 +136,8 @@ def one(number, tally):
         lines, wanted = played(rng, text, name, log, opens)
         got = answer(words, talk(text, lines), SJSEAT)
         said = b"go\n" + b"".join(line + b"\n" for line in wanted)
-        if got[0] == 13:
-            good = got[1] == said + NONE + b"\n" and OPENS.search(text) is not None
-        else:
-            accepts = re.search(rb"(?m)^party %s waits [0-9]+ from " % name, transcript) is not None
-            good = got[0] in ((0, 6) if accepts else (status,)) and without(got[1], name, accepts) == said + without(transcript, name, accepts)
-        tally.times["without a transcript"] += got[0] == 13
+        accepts = re.search(rb"(?m)^party %s waits [0-9]+ from " % name, transcript) is not None
+        good = got[0] in ((0, 6) if accepts else (status,)) and without(got[1], name, accepts) == said + without(by_ends(transcript), name, accepts)
         tally.one(good, "party %d: %s" % (party, got[0]), talk(text, lines))
         ends, labels = list(names_of(text, name).values()) or [b"x"], re.findall(rb"\bL[0-9]\b|\b[A-Z]+\b", text) + [b"NONE"]
         sessions = re.findall(rb"\b(request|accept) \w+ (\w+ (?:to|from) \w+);", text)
@@ -148,5 +152,5 @@ if __name__ == "__main__":
     if not stands(SJSEAT):
         sys.exit(2)
     tally = spread(count, one)
-    print("%d without a transcript, as a session was opened; %d of parties that open some" % (tally.times["without a transcript"], tally.times["that open sessions themselves"]))
+    print("%d of parties that open sessions themselves" % tally.times["that open sessions themselves"])
     tally.end()

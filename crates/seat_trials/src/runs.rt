@@ -10,14 +10,14 @@ use crate::why::Why;
 use sj_check::Accepted;
 use sj_lane::Links;
 use sj_seat_run::{Play, run_seated, text_count};
-use sj_seat_told::{TranscriptRefusal, put_transcript};
+use sj_seat_told::{opened, put_transcript};
 use sj_seats::SeatedWorld;
 use sj_work::NoGate;
 use std::alloc::Global;
 use std::thread::Threads;
 
-/// A run in which nothing is left to do: its world, its codes, and its transcript. There is none
-/// where a session was opened.
+/// A run in which nothing is left to do: its world, its codes, and its transcript where no session
+/// was opened. Else this tells ends otherwise than the plain world's.
 #[derive(Drop)]
 pub(crate) struct Ended<C> {
     pub world: SeatedWorld,
@@ -48,7 +48,7 @@ pub(crate) fn run<R: Threads + Sync, L: Links, C: Play + Send + Drop>(
     })
 }
 
-// Drains the world. Its transcript, if it has one.
+// Drains the world. Its transcript, where no session was opened.
 fn text_of(
     alloc: Global,
     accepted: &Accepted,
@@ -62,8 +62,16 @@ fn text_of(
     }
     let mut text = Vec::new(alloc);
     match put_transcript(alloc, &mut text, accepted.file(), world) {
-        Ok(()) => Ok(Some(text)),
-        Err(TranscriptRefusal::Opened) => Ok(None),
-        Err(TranscriptRefusal::NoMemory) => Err(Why::NoMemory),
+        Ok(()) => {}
+        Err(_) => return Err(Why::NoMemory),
+    }
+    let opened = match opened(alloc, world) {
+        Ok(opened) => opened,
+        Err(_) => return Err(Why::NoMemory),
+    };
+    if opened.is_empty() {
+        Ok(Some(text))
+    } else {
+        Ok(None)
     }
 }

@@ -59,7 +59,7 @@ fn bad_in(codes: &[Option<Written>]) -> Option<Why> {
     None
 }
 
-// Whether it was as it must be. Where a session was opened there is no transcript.
+// Whether it was as it must be. Where a session was opened no transcript is looked at.
 fn judge(
     alloc: Global,
     accepted: &Accepted,

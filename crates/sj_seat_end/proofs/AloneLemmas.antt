@@ -1,8 +1,7 @@
 -- Codes of which one party alone has one.
-use Rattle.std.proofs.Common.{◌≡◌, ◌∙◌, ℕ, inl, inr, zero, suc, ◌==◌, ◌<◌, ◌+◌, false, List, [], ◌∷◌, ◌++◌, length, length-append, Option, Some, None, refl, sym, ap, subst, arith}
+use Rattle.std.proofs.Common.{◌≡◌, ◌∙◌, ℕ, inl, inr, zero, suc, ◌==◌, ◌+◌, false, List, [], ◌∷◌, ◌++◌, length, length-append, Option, Some, None, refl, sym, ap, subst, arith}
 use Rattle.std.proofs.lemmas.Bool.{eq-eqb, ne_eqb, cases_eq}
 use mathlib.Core.Path.{fun_ext}
-use Rattle.sj_lang.specs.FileAt.{FileAt}
 use Rattle.sj_seat_run.specs.Seats.{seats_by}
 use Rattle.sj_seat_end.specs.Alone.{AreAlone, AreNobodys, is_party}
 

@@ -1,5 +1,5 @@
 -- What a drained world reports at the end of a run.
-use Rattle.std.proofs.Common.{◌≡◌, ◌∙◌, ℕ, ◌<◌, max, List, [], ◌++◌, length, Option, sym, ap, subst}
+use Rattle.std.proofs.Common.{◌≡◌, ◌∙◌, ℕ, max, List, [], length, map, Option, sym, ap, subst}
 use Rattle.sj_acceptance.specs.Accepted.{IsAccepted}
 use Rattle.sj_lang.specs.FileAt.{FileAt}
 use Rattle.sj_lang.specs.FileView.{file_of}
@@ -13,26 +13,29 @@ use Rattle.sj_seat_run.specs.Seats.{HasSameSeats, seats_by}
 use Rattle.sj_seat_told.specs.Quiet.{IsEndOf, IsQuietOf}
 use Rattle.sj_seat_told.specs.Transcript.{IsToldAfter}
 use Rattle.sj_seat_told_laws.specs.SeatsHistory.{IsSeatsHistory}
+use Rattle.sj_seat_told_laws.specs.SeatsOpened.{unnamed}
 use Rattle.sj_seat_told_laws.specs.SeatsStands.{AreSeatsStands, seats_verdict}
 use Rattle.sj_seats.specs.Seated.{callers_of, core_of, history_of, kept_file, party_count, seats_of}
 use Rattle.sj_seats.specs.declared.seated.SeatedWorld.{SeatedWorld}
 use Rattle.sj_semantics.specs.State.{opened_in}
+use Rattle.sj_semantics.specs.declared.Opened.{Opened}
 use Rattle.sj_semantics.specs.declared.Verdict.{Verdict}
 use Rattle.sj_told.specs.declared.told.Stand.{Stand}
 
--- a transcript put after no text, and the verdict by how the parties stand
-pub told_by : (file : FileAt) (w : SeatedWorld) (old text : List ℕ) (stands judged : List Stand) (verdict : Verdict) → old ≡ [] → IsQuietOf file w → IsToldAfter file w old text
+-- a transcript put after no text, and the verdict by how the parties stand and what was opened
+pub told_by : (file : FileAt) (w : SeatedWorld) (old text : List ℕ) (stands judged : List Stand) (opened sessions : List Opened) (verdict : Verdict) → old ≡ [] → IsQuietOf file w → IsToldAfter file w old text
     → ((f : FileAt) (t : SeatsWorld) → IsQuietOf f w → IsEndOf f w t → AreSeatsStands t stands)
-    → judged ≡ stands
-    → ((t : SeatsWorld) → opened_in t.world ≡ [] → AreSeatsStands t judged → verdict ≡ seats_verdict t)
+    → ((f : FileAt) (t : SeatsWorld) → IsQuietOf f w → IsEndOf f w t → opened ≡ map unnamed (opened_in t.world))
+    → judged ≡ stands → sessions ≡ opened
+    → ((t : SeatsWorld) → AreSeatsStands t judged → sessions ≡ map unnamed (opened_in t.world) → verdict ≡ seats_verdict t)
     → IsToldBy file w verdict text
-told_by file w old text stands judged verdict new quiet told stand same judge =
+told_by file w old text stands judged opened sessions verdict new quiet told stand open_so same also judge =
     let after : IsToldAfter file w [] text = subst (λ (xs : List ℕ). IsToldAfter file w xs text) new told in
     record {
       plain = after.world;
       is = after.is;
       transcript = after.text;
-      ends = judge after.world after.is.none (subst (λ (ss : List Stand). AreSeatsStands after.world ss) (sym same) (stand file after.world quiet after.is.end));
+      ends = judge after.world (subst (λ (ss : List Stand). AreSeatsStands after.world ss) (sym same) (stand file after.world quiet after.is)) (also ∙ open_so file after.world quiet after.is);
     }
 
 -- a drained world of the file leaves nothing to do

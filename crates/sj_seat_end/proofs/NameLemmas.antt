@@ -1,13 +1,13 @@
 -- A file with the texts of a run is as good as the file itself.
 use Rattle.std.proofs.Common.{◌≡◌, ℕ, [], List, Result, Ok, Err}
 use Rattle.std.specs.Prelude.{IfOk}
+use Rattle.sj_base.specs.declared.stream.NoMemory.{NoMemory}
 use Rattle.sj_lang.specs.FileAt.{FileAt}
 use Rattle.sj_plain.specs.SharedFile.{without_words}
 use Rattle.sj_seat_end.specs.Told.{IsToldBy, IsToldUnder}
 use Rattle.sj_seat_end.specs.declared.telling.Told.{Told}
 use Rattle.sj_seat_texts.specs.Named.{IsNamedBy}
 use Rattle.sj_seat_told.specs.Quiet.{IsQuietOf}
-use Rattle.sj_seat_told.specs.declared.refusal.TranscriptRefusal.{TranscriptRefusal}
 use Rattle.sj_seat_told.proofs.NameLemmas.{quiet_named}
 use Rattle.sj_seats.specs.declared.seated.SeatedWorld.{SeatedWorld}
 
@@ -19,7 +19,7 @@ pub quiet_under : (file named : FileAt) (texts : List (List ℕ)) (w : SeatedWor
 quiet_under file named texts w is quiet = quiet_named file named w (kept_named file named texts is) quiet
 
 -- what is told by the file that has the texts
-pub told_under : (file named : FileAt) (texts : List (List ℕ)) (w : SeatedWorld) (r : Result Told TranscriptRefusal) → IsNamedBy file texts named → IfOk r (λ t. IsToldBy named w t.verdict t.text.items)
+pub told_under : (file named : FileAt) (texts : List (List ℕ)) (w : SeatedWorld) (r : Result Told NoMemory) → IsNamedBy file texts named → IfOk r (λ t. IsToldBy named w t.verdict t.text.items)
     → IfOk r (λ t. IsToldUnder file w t.verdict t.text.items)
 told_under file named texts w (Ok t) is told = record { texts = texts; named = named; is = is; told = told }
 told_under file named texts w (Err e) is told = tt

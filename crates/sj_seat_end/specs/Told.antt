@@ -3,18 +3,17 @@ use Rattle.std.specs.Prelude.{◌≡◌, ℕ, ◌<◌, Bool, List, length}
 use Rattle.sj_lang.specs.FileAt.{FileAt}
 use Rattle.sj_seat_laws.specs.SeatsWorld.{SeatsWorld}
 use Rattle.sj_seat_texts.specs.Named.{IsNamedBy}
-use Rattle.sj_seat_told.specs.Quiet.{IsQuietOf}
-use Rattle.sj_seat_told.specs.Transcript.{IsUnopenedEnd}
+use Rattle.sj_seat_told.specs.Quiet.{IsEndOf, IsQuietOf}
 use Rattle.sj_seat_told_laws.specs.SeatsStands.{seats_verdict}
 use Rattle.sj_seat_told_laws.specs.SeatsTranscript.{seats_transcript}
 use Rattle.sj_seats.specs.Seated.{seats_of}
 use Rattle.sj_seats.specs.declared.seated.SeatedWorld.{SeatedWorld}
 use Rattle.sj_semantics.specs.declared.Verdict.{Verdict}
 
--- the acts of the world's history lead to a plain world in which no session was opened, of which that is the transcript and the verdict
+-- the acts of the world's history lead to a plain world of which that is the transcript and the verdict
 pub record IsToldBy (file : FileAt) (w : SeatedWorld) (verdict : Verdict) (text : List ℕ) : Type 0 where
   pub plain : SeatsWorld
-  pub is : IsUnopenedEnd file w plain
+  pub is : IsEndOf file w plain
   pub transcript : text ≡ seats_transcript file plain
   pub ends : verdict ≡ seats_verdict plain
 

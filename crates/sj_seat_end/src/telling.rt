@@ -1,13 +1,13 @@
 //! The transcript of a world with seats that leaves nothing to do, with its verdict.
-ghost use Rattle.std.specs.Prelude.{◌≡◌, ◌↔◌, Err, IfOk};
+ghost use Rattle.std.specs.Prelude.{IfOk};
 ghost use Rattle.sj_lang.specs.FileView.{file_of};
 ghost use Rattle.sj_seat_end.specs.Told.{IsToldBy, IsToldUnder};
-ghost use Rattle.sj_seat_told.specs.Quiet.{HasOpenedNone, IsQuietOf};
+ghost use Rattle.sj_seat_told.specs.Quiet.{IsQuietOf};
 
 use sj_base::NoMemory;
 use sj_lang::File;
 use sj_seat_texts::{Texts, named_file};
-use sj_seat_told::{TranscriptRefusal, put_transcript, stands, verdict};
+use sj_seat_told::{opened, put_transcript, stands, verdict};
 use sj_seats::SeatedWorld;
 use sj_semantics::Verdict;
 use std::alloc::Global;
@@ -20,13 +20,11 @@ pub struct Told {
 }
 
 /// What the world reports of the end of its run, its texts named by that file. Others are `#` and
-/// their numbers. It is refused where a session was
-/// opened, or out of memory.
-pub fn told_of(alloc: Global, file: &File, world: &SeatedWorld) -> Result<Told, TranscriptRefusal>
+/// their numbers.
+pub fn told_of(alloc: Global, file: &File, world: &SeatedWorld) -> Result<Told, NoMemory>
     requires quiet { IsQuietOf (file_of file.now) world.now }
-    ensures told { IfOk result (λ t.
+    ensures { IfOk result (λ t.
         IsToldBy (file_of file.now) world.now t.verdict t.text.items) }
-    ensures opened { (result ≡ Err TranscriptRefusal.Opened) ↔ (HasOpenedNone world.now → ⊥) }
 {
     let mut text = Vec::new(alloc);
     match put_transcript(alloc, &mut text, file, world) {
@@ -35,9 +33,13 @@ pub fn told_of(alloc: Global, file: &File, world: &SeatedWorld) -> Result<Told, 
     }
     let stands = match stands(alloc, world) {
         Ok(stands) => stands,
-        Err(NoMemory) => return Err(TranscriptRefusal::NoMemory),
+        Err(refusal) => return Err(refusal),
     };
-    let verdict = verdict(&stands);
+    let opened = match opened(alloc, world) {
+        Ok(opened) => opened,
+        Err(refusal) => return Err(refusal),
+    };
+    let verdict = verdict(&stands, &opened);
     Ok(Told { verdict, text })
 }
 
@@ -47,14 +49,13 @@ pub fn told_with(
     file: &File,
     texts: Texts,
     world: &SeatedWorld,
-) -> Result<Told, TranscriptRefusal>
+) -> Result<Told, NoMemory>
     requires quiet { IsQuietOf (file_of file.now) world.now }
-    ensures told { IfOk result (λ t.
+    ensures { IfOk result (λ t.
         IsToldUnder (file_of file.now) world.now t.verdict t.text.items) }
-    ensures opened { result ≡ Err TranscriptRefusal.Opened → HasOpenedNone world.now → ⊥ }
 {
     match named_file(alloc, file, texts) {
         Ok(named) => told_of(alloc, &named, world),
-        Err(NoMemory) => Err(TranscriptRefusal::NoMemory),
+        Err(refusal) => Err(refusal),
     }
 }

@@ -1,11 +1,11 @@
 -- What playing a party by lines writes at last, and its status.
 use Rattle.std.specs.Prelude.{◌≡◌, ◌⊎◌, ℕ, List, Option, Some, None, Result, Ok}
 use Rattle.sj_base.specs.Stream.{put_behind}
+use Rattle.sj_base.specs.declared.stream.NoMemory.{NoMemory}
 use Rattle.sj_lang.specs.FileAt.{FileAt}
 use Rattle.sj_seat_end.specs.Alone.{is_party}
 use Rattle.sj_seat_end.specs.Told.{IsAtEnd, IsToldUnder}
 use Rattle.sj_seat_end.specs.declared.telling.Told.{Told}
-use Rattle.sj_seat_told.specs.declared.refusal.TranscriptRefusal.{TranscriptRefusal}
 use Rattle.sj_seats.specs.declared.seated.SeatedWorld.{SeatedWorld}
 use Rattle.sj_semantics.specs.declared.Verdict.{Verdict}
 use Rattle.sj_tool.specs.Texts.{verdict_status, write_fault_status}
@@ -25,14 +25,14 @@ IsLast written None text = ⊥
 IsLast written (Some k) text = (before : Option (List ℕ)) × (written k ≡ put_behind before text)
 
 -- that transcript was written after what was there, and the status is that of its verdict
-pub record IsToldSo (before after : Option (List ℕ)) (told : Result Told TranscriptRefusal) (status : ℕ) : Type 0 where
+pub record IsToldSo (before after : Option (List ℕ)) (told : Result Told NoMemory) (status : ℕ) : Type 0 where
   pub it : Told
   pub there : told ≡ Ok it
   pub written : after ≡ put_behind before it.text.items
   pub ends : status ≡ verdict_status it.verdict
 
 -- that transcript was written last, and the status is that of its verdict
-pub record HasTold {K : Type 0} (written : K → Option (List ℕ)) (told : Result Told TranscriptRefusal) (p : Played K) : Type 0 where
+pub record HasTold {K : Type 0} (written : K → Option (List ℕ)) (told : Result Told NoMemory) (p : Played K) : Type 0 where
   pub it : Told
   pub there : told ≡ Ok it
   pub last : IsLast written p.out it.text.items

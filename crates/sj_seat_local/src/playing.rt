@@ -15,7 +15,6 @@ use sj_seat_end::{Told, run_alone, told_with};
 use sj_seat_lines::{Ended, Left, LineReader, Lines, Party, first_names};
 use sj_seat_run::SeatedRefusal;
 use sj_seat_texts::Texts;
-use sj_seat_told::TranscriptRefusal;
 use sj_work::NoGate;
 use std::alloc::Global;
 use std::thread::Threads;
@@ -25,9 +24,6 @@ pub const LOOKS: u32 = 1_000;
 
 /// The status where a line can't be read.
 const READ_FAULT: u8 = 2;
-
-/// The status where a session was opened, so that there is no transcript yet.
-const OPENED: u8 = 13;
 
 /// What playing a party by lines leaves: the status, and where the answers went, if that came back.
 #[derive(Drop)]
@@ -74,11 +70,7 @@ fn fault_of(ended: Option<Ended>) -> Option<u8>
 }
 
 /// Writes the transcript after the answers to lines, where all of these could be read and answered.
-fn finish<K: Sink + Drop>(
-    ended: Option<Ended>,
-    sink: K,
-    told: Result<Told, TranscriptRefusal>,
-) -> Played<K>
+fn finish<K: Sink + Drop>(ended: Option<Ended>, sink: K, told: Result<Told, NoMemory>) -> Played<K>
     ensures { IsVerdict result.status → HasTold K.written told result }
 {
     let mut out = sink;
@@ -95,16 +87,13 @@ fn finish<K: Sink + Drop>(
     }
 }
 
-/// Writes the transcript, or that there is none, and answers the status.
-fn tell<K: Sink>(out: &mut K, told: &Result<Told, TranscriptRefusal>) -> u8
+/// Writes the transcript, and answers the status.
+fn tell<K: Sink>(out: &mut K, told: &Result<Told, NoMemory>) -> u8
     ensures { IsVerdict result → IsToldSo (K.written out.old) (K.written out.new) told.now result }
 {
     match told {
         Ok(told) => said(out, &told.text, status_of(told.verdict)),
-        Err(TranscriptRefusal::Opened) => {
-            said(out, b"no transcript: a session was opened\n", OPENED)
-        }
-        Err(TranscriptRefusal::NoMemory) => NO_MEMORY,
+        Err(_) => NO_MEMORY,
     }
 }
 

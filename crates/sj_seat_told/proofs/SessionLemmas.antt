@@ -1,5 +1,5 @@
 -- The lines of sessions that were opened, by what the history reports of their ends.
-use Rattle.std.proofs.Common.{◌≡◌, ℕ, zero, suc, ◌+◌, ◌*◌, ◌<◌, ◌≤◌, List, [], ◌∷◌, ◌++◌, length, map, slice_get, slice_index_or, unwrap_or, Option, Some, option_map, refl, ap, sym, ◌∙◌, arith, inl, inr}
+use Rattle.std.proofs.Common.{◌≡◌, ℕ, zero, suc, ◌+◌, ◌<◌, ◌≤◌, List, [], ◌∷◌, ◌++◌, length, map, slice_index_or, unwrap_or, Option, option_map, refl, ap, sym, ◌∙◌, arith, inl, inr}
 use Rattle.std.proofs.lemmas.Bool.Decides.{eqb_tells}
 use Rattle.std.specs.List.{All}
 use Rattle.sj_base.specs.declared.EndId.{EndId}
@@ -7,12 +7,11 @@ use Rattle.sj_lane.proofs.BackLemmas.{slice_get_some}
 use Rattle.sj_lang.specs.FileAt.{FileAt}
 use Rattle.sj_rules.specs.Log.{LineAt}
 use Rattle.sj_rules_laws.specs.TiedNotes.{sent_told, taken_told, told_in}
-use Rattle.sj_seat_told.specs.Opened.{sent_at, takers_at, told_end_lines, told_session_lines, told_sessions_lines}
+use Rattle.sj_seat_told.specs.Opened.{sent_at, takers_at, told_end_lines, told_sessions_lines}
 use Rattle.sj_seat_told_laws.specs.SeatsOpened.{opened_ends_line, opened_ends_lines}
 use Rattle.sj_semantics.specs.Ends.{Session, end_at, other_end}
 use Rattle.sj_semantics.specs.Transcript.{end_lines, sent_lines}
 use Rattle.sj_semantics.specs.declared.Opened.{Opened}
-use Rattle.sj_semantics.specs.declared.Passed.{Passed}
 use Rattle.sj_told.specs.Lines.{AreToldBy}
 use Rattle.sj_told.specs.Told.{side_slot, slot_of}
 use Rattle.sj_told.specs.declared.told.ToldEnd.{ToldEnd}

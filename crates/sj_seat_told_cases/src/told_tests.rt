@@ -14,7 +14,7 @@ use sj_print::print_transcript;
 use sj_proto::Tokens;
 use sj_seat::seat_table;
 use sj_seat_replay::{SeatReplayRefusal, put_history, replay_seated};
-use sj_seat_told::{TranscriptRefusal, put_transcript};
+use sj_seat_told::put_transcript;
 use sj_seats::SeatedWorld;
 use std::alloc::Global;
 use std::test::Fail;
@@ -105,18 +105,11 @@ fn seated_world(
 }
 
 /// The transcript of that world.
-fn seated(
-    alloc: Global,
-    accepted: &Accepted,
-    party: usize,
-    most: usize,
-) -> Result<Result<Vec<u8>, TranscriptRefusal>, Fail> {
+fn seated(alloc: Global, accepted: &Accepted, party: usize, most: usize) -> Result<Vec<u8>, Fail> {
     let world = seated_world(alloc, accepted, party, most)?;
     let mut text = Vec::new(alloc);
-    match put_transcript(alloc, &mut text, accepted.file(), &world) {
-        Ok(()) => Ok(Ok(text)),
-        Err(refusal) => Ok(Err(refusal)),
-    }
+    put_transcript(alloc, &mut text, accepted.file(), &world)?;
+    Ok(text)
 }
 
 /// The log does not lead on with these seats, or it leads to a world.
@@ -150,7 +143,7 @@ fn a_seat_that_does_as_the_file_has_its_transcript(rt: HostRuntime) -> Result<()
         let mut own = Vec::new(alloc);
         print_transcript(&mut own, accepted.file(), &plain)?;
         let text = seated(alloc, &accepted, party, usize::MAX)?;
-        assert_eq!(rt; text.as_deref(), Ok(own.as_slice()), "party {party}");
+        assert_eq!(rt; text.as_slice(), own.as_slice(), "party {party}");
     }
     Ok(())
 }
@@ -168,16 +161,32 @@ party b waits 0 0.1
 party c waits 0 1.1
 blocked
 ";
-    assert_eq!(rt; text.as_deref(), Ok(left));
+    assert_eq!(rt; text.as_slice(), left);
     Ok(())
 }
 
 #[test]
-fn a_run_with_an_opened_session_has_no_transcript(rt: HostRuntime) -> Result<(), Fail> {
+fn an_opened_session_is_told_by_its_ends(rt: HostRuntime) -> Result<(), Fail> {
     let alloc = rt.alloc();
     let accepted = accepted(alloc, OPENED)?;
     let text = seated(alloc, &accepted, 2, usize::MAX)?;
-    assert_eq!(rt; text.as_deref(), Err(&TranscriptRefusal::Opened));
+    let whole: &[u8] = b"session 64 a 64.0 b 64.1
+64.0 0 a b int 5
+party a ended 3
+party b ended 3
+party c ended 0
+done
+";
+    assert_eq!(rt; text.as_slice(), whole);
+    let text = seated(alloc, &accepted, 1, 0)?;
+    let left: &[u8] = b"session 64 a 64.0 b -
+64.0 0 a - int 5
+party a ended 3
+party b ended 0
+party c ended 0
+blocked
+";
+    assert_eq!(rt; text.as_slice(), left);
     Ok(())
 }
 

@@ -7,5 +7,5 @@ told_of-requires c = record {
   quiet = quiet_under (file_of c.args.file.now) (file_of c.in-Ok.named) c.args.texts c.args.world.now c.in-Ok.ensures c.requires.quiet;
 }
 
-pub returns-in-Ok-clause-told : goal.returns-in-Ok-clause-told
-returns-in-Ok-clause-told c = told_under (file_of c.args.file.now) (file_of c.in-Ok.named) c.args.texts c.args.world.now c.told_of.result c.in-Ok.ensures c.told_of.ensures.told
+pub returns-in-Ok : goal.returns-in-Ok
+returns-in-Ok c = told_under (file_of c.args.file.now) (file_of c.in-Ok.named) c.args.texts c.args.world.now c.told_of.result c.in-Ok.ensures c.told_of.ensures

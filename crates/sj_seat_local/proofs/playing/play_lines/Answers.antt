@@ -13,4 +13,4 @@ run_alone-requires-send-C g c κs within = param_send 3 _ (arg_send _ no _ (code
 pub returns : goal.returns
 returns g c =
     played_so g.K.Sink.written (file_of (file_in c.args.accepted.now)) (file_of c.file.result.now) c.args.party c.in-Ok-run_alone.end.world c.told_with-told.result c.finish.result
-    (ap file_of c.file.ensures.value) c.in-Ok-run_alone.ensures.end c.told_with-told.ensures.told c.finish.ensures
+    (ap file_of c.file.ensures.value) c.in-Ok-run_alone.ensures.end c.told_with-told.ensures c.finish.ensures

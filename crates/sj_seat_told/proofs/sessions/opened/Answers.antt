@@ -1,6 +1,6 @@
 use Rattle.std.proofs.Common.{ℕ, ap, arith, ◌∙◌}
 use Rattle.sj_seat_told_laws.specs.SeatsOpened.{sessions_told}
-use Rattle.sj_seats.specs.Seated.{history_of, party_count}
+use Rattle.sj_seats.specs.Seated.{history_of}
 use Rattle.sj_seat_told.proofs.OpenedLemmas.{opened_at_end, party_added}
 use Rattle.sj_seat_told.proofs.sessions.opened.Goals as goal
 

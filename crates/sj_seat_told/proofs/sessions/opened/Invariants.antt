@@ -1,4 +1,4 @@
-use Rattle.std.proofs.Common.{◌≡◌, ◌≤◌}
+use Rattle.std.proofs.Common.{◌≡◌}
 use Rattle.sj_seat_told_laws.specs.SeatsOpened.{sessions_told}
 use Rattle.sj_seats.specs.Seated.{history_of}
 use Rattle.sj_seat_told.proofs.sessions.opened.Given as goal
