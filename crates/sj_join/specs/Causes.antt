@@ -22,17 +22,22 @@ IsError r tokens = option_map refusal_named (failure_at tokens) ≡ Some r
 abbrev pub IsNone : {A : Type 0} → Read A → Type 0
 IsNone {A} read = (x : A) (rest : List TokenAt) → read ≡ Good x rest → ⊥
 
+-- it is no error, and nothing of that form is at the front
+abbrev pub IsOdd : {A : Type 0} → List TokenAt → Read A → Type 0
+IsOdd tokens read = (failure_at tokens ≡ None) × IsNone read
+
 -- what a reply has that isn't the file's text: there is no file, it is an error, or of another shape
 abbrev pub IsNoText : JoinRefusal → List TokenAt → Type 0
 IsNoText joins.NoRun tokens = (rest : List TokenAt) × (text_at tokens ≡ Good None rest)
-IsNoText (joins.Talk talks.NoReply) tokens = IsNone (text_at tokens)
+IsNoText (joins.Talk talks.NoReply) tokens = IsOdd tokens (text_at tokens)
 IsNoText (joins.Talk (talks.Refused r)) tokens = IsError r tokens
 IsNoText _ tokens = ⊥
 
 -- what a reply has that isn't what stands in the streams: an entry isn't the next, it is an error, or of another shape
 abbrev pub IsNoRead : (run : List ℕ) → (parties : ℕ) → JoinRefusal → List TokenAt → Type 0
 IsNoRead run parties (joins.Talk talks.Gap) tokens = came_at (keys_at run parties) (seen_none parties) tokens ≡ Bad misreads.Gap
-IsNoRead run parties (joins.Talk talks.NoReply) tokens = (came : List CameAt) → came_at (keys_at run parties) (seen_none parties) tokens ≡ Good came [] → ⊥
+IsNoRead run parties (joins.Talk talks.NoReply) tokens =
+    (failure_at tokens ≡ None) × ((came : List CameAt) → came_at (keys_at run parties) (seen_none parties) tokens ≡ Good came [] → ⊥)
 IsNoRead run parties (joins.Talk (talks.Refused r)) tokens = IsError r tokens
 IsNoRead run parties _ tokens = ⊥
 
@@ -43,13 +48,13 @@ by_password r = r
 
 -- what a reply has that doesn't take the password
 abbrev pub IsNoEntry : JoinRefusal → List TokenAt → Type 0
-IsNoEntry (joins.Talk talks.NoReply) tokens = IsNone (well_at tokens)
+IsNoEntry (joins.Talk talks.NoReply) tokens = IsOdd tokens (well_at tokens)
 IsNoEntry (joins.Talk (talks.Refused r)) tokens = option_map by_password (option_map refusal_named (failure_at tokens)) ≡ Some r
 IsNoEntry _ tokens = ⊥
 
 -- what a reply has that is no number
 abbrev pub IsNoCount : JoinRefusal → List TokenAt → Type 0
-IsNoCount (joins.Talk talks.NoReply) tokens = IsNone (number_at tokens)
+IsNoCount (joins.Talk talks.NoReply) tokens = IsOdd tokens (number_at tokens)
 IsNoCount (joins.Talk (talks.Refused r)) tokens = IsError r tokens
 IsNoCount _ tokens = ⊥
 

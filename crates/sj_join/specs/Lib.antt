@@ -6,3 +6,4 @@ pub mod Joins
 pub mod Sources
 pub mod Places
 pub mod Finding
+pub mod Now

@@ -30,3 +30,14 @@ place_part file steps (states.AtLimit l) = codes " limit " ++ decimal steps ++ l
 -- the line of a party
 abbrev pub place_line : FileAt → (party steps : ℕ) → State → List ℕ
 place_line file party steps state = codes "party " ++ name_of file party ++ place_part file steps state ++ codes "\n"
+
+-- the same line in a transcript, in which a party that goes on has its name alone
+abbrev pub told_part : FileAt → (steps : ℕ) → State → List ℕ
+told_part file steps states.Ready = codes ""
+told_part file steps states.Ended = place_part file steps states.Ended
+told_part file steps (states.Waits e) = place_part file steps (states.Waits e)
+told_part file steps (states.WaitsOpen q) = place_part file steps (states.WaitsOpen q)
+told_part file steps (states.AtLimit l) = place_part file steps (states.AtLimit l)
+
+abbrev pub told_line : FileAt → (party steps : ℕ) → State → List ℕ
+told_line file party steps state = codes "party " ++ name_of file party ++ told_part file steps state ++ codes "\n"

@@ -5,6 +5,10 @@ use Rattle.sj_print.specs.LogLine.{log_text}
 use Rattle.sj_print.specs.Version.{mark_of, version_of}
 use Rattle.sj_rules.specs.Log.{LineAt}
 
--- the text of the file, the line before a log, and the log of these lines
+-- the line before a log, and the log of these lines
+abbrev pub log_part : FileAt → List LineAt → List ℕ
+log_part file lines = mark_of (version_of lines) ++ log_text file lines
+
+-- the text of the file, and then those
 abbrev pub source_text : (text : List ℕ) → FileAt → List LineAt → List ℕ
-source_text text file lines = text ++ mark_of (version_of lines) ++ log_text file lines
+source_text text file lines = text ++ log_part file lines

@@ -6,7 +6,7 @@ use Rattle.sj_remote.specs.declared.conn.Conn.{Conn}
 use Rattle.sj_remote.specs.Conn.{Replied}
 use Rattle.sj_resp.specs.Spelling.{command_text}
 use Rattle.sj_resp.specs.Token.{TokenAt}
-use Rattle.sj_streams.specs.Answers.{number_at, text_at}
+use Rattle.sj_streams.specs.Answers.{number_at, text_at, well_at}
 use Rattle.sj_streams.specs.Commands.{read_words}
 use Rattle.sj_streams.specs.Keys.{file_key_text, log_key_text}
 use Rattle.sj_streams.specs.Reading.{CameAt, Good, came_at}
@@ -48,3 +48,7 @@ Brings run parties came tokens = came_at (keys_at run parties) (seen_none partie
 -- it begins with that number
 abbrev pub Counts : (n : ℤ) → List TokenAt → Type 0
 Counts n tokens = (rest : List TokenAt) × (number_at tokens ≡ Good n rest)
+
+-- it begins with a line that says that the command went well, and is no error
+abbrev pub Admits : List TokenAt → Type 0
+Admits tokens = (rest : List TokenAt) × (well_at tokens ≡ Good tt rest)

@@ -1,7 +1,8 @@
 //! Where the parties of a run are.
 ghost use Rattle.std.specs.Prelude.{◌≡◌, ◌++◌, decimal, OnOk};
 ghost use Rattle.sj_lang.specs.FileView.{file_of};
-ghost use Rattle.sj_join.specs.Places.{end_part, place_line, place_part};
+ghost use Rattle.sj_join.specs.Now.{is_ready};
+ghost use Rattle.sj_join.specs.Places.{end_part, place_line, place_part, told_line};
 
 use sj_base::{EndId, NoMemory};
 use sj_lang::File;
@@ -70,4 +71,30 @@ pub(crate) fn put_party(
     print_name(text, file, party)?;
     put_place(text, file, steps, state)?;
     put(text, b"\n")
+}
+
+/// The line of a party as a transcript has it: with its name alone where it can go on.
+pub(crate) fn put_told(
+    text: &mut Vec<u8>,
+    file: &File,
+    party: u16,
+    steps: u32,
+    state: State,
+) -> Result<(), NoMemory>
+    ensures { OnOk result (text.new.items
+        ≡ text.old.items ++ told_line (file_of file.now) party steps state) }
+{
+    put(text, b"party ")?;
+    print_name(text, file, party)?;
+    if !is_ready(state) {
+        put_place(text, file, steps, state)?;
+    }
+    put(text, b"\n")
+}
+
+/// Whether a party that stands so can act.
+pub(crate) fn is_ready(state: State) -> bool
+    ensures { result ≡ is_ready state }
+{
+    matches!(state, State::Ready)
 }

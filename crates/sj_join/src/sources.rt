@@ -1,11 +1,12 @@
 //! A run as the source of a replay: the text of its file, and its joined log.
-ghost use Rattle.std.specs.Prelude.{◌≡◌, ◌≤◌, ◌++◌, IfErr, IfOk, OnOk, length, map};
+ghost use Rattle.std.specs.Prelude.{◌≡◌, ◌≤◌, ◌++◌, IfErr, IfOk, OnErr, OnOk, length, map};
 ghost use Rattle.sj_end.specs.Lines.{line_at};
 ghost use Rattle.sj_lang.specs.FileView.{file_of};
 ghost use Rattle.sj_lang.specs.Limits.{limits};
 ghost use Rattle.sj_print.specs.LogLine.{log_text};
 ghost use Rattle.sj_join.specs.Finding.{IsFound, IsFoundWithin, IsNotFound, IsNotRead, IsReadRun};
-ghost use Rattle.sj_join.specs.Sources.{source_text};
+ghost use Rattle.sj_join.specs.Sources.{log_part, source_text};
+ghost use Rattle.sj_text.specs.Cut.{IsCutShort};
 
 use crate::JoinRefusal;
 use crate::joins::join_texts;
@@ -32,8 +33,10 @@ pub struct Found {
 }
 
 fn put_lines(text: &mut Vec<u8>, file: &File, lines: &[Line]) -> Result<(), NoMemory>
-    ensures { OnOk result (text.new.items
+    ensures all { OnOk result (text.new.items
         ≡ text.old.items ++ log_text (file_of file.now) (map line_at lines.now)) }
+    ensures part { OnErr result (IsCutShort text.old.items
+        (log_text (file_of file.now) (map line_at lines.now)) text.new.items) }
 {
     for line in lines {
         print_line(text, file, line)?;
@@ -41,10 +44,14 @@ fn put_lines(text: &mut Vec<u8>, file: &File, lines: &[Line]) -> Result<(), NoMe
     Ok(())
 }
 
-/// Puts the line before a log and the log after the text of the file.
+/// Puts the line before a log and the log after the text of the file. Out of memory, it leaves a
+/// prefix of them.
+#[tactic(auto, using(sj_text::proofs::CutLemmas::cuts))]
 pub fn put_source(text: &mut Vec<u8>, file: &File, lines: &[Line]) -> Result<(), NoMemory>
-    ensures { OnOk result (text.new.items
+    ensures all { OnOk result (text.new.items
         ≡ source_text text.old.items (file_of file.now) (map line_at lines.now)) }
+    ensures part { OnErr result (IsCutShort text.old.items
+        (log_part (file_of file.now) (map line_at lines.now)) text.new.items) }
 {
     print_mark(text, lines)?;
     put_lines(text, file, lines)

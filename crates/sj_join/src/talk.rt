@@ -1,5 +1,5 @@
 //! What is asked of the server, and what it answers.
-ghost use Rattle.std.specs.Prelude.{◌≡◌, ◌≤◌, ℕ, ◌++◌, length, map, option_map, IfErr, IfOk, OnOk};
+ghost use Rattle.std.specs.Prelude.{◌≡◌, ◌≤◌, ℕ, ◌++◌, length, map, option_map, IfErr, IfOk, None, OnOk};
 ghost use Rattle.std.specs.List.{flat_map};
 ghost use Rattle.sj_base.specs.Stream.{put_behind};
 ghost use Rattle.sj_lang.specs.Limits.{limits};
@@ -7,13 +7,14 @@ ghost use Rattle.sj_remote.specs.Answers.{MeetsRead};
 ghost use Rattle.sj_remote.specs.Conn.{Replied, heard, sink_of, source_of};
 ghost use Rattle.sj_remote.specs.Passwords.{auth_words};
 ghost use Rattle.sj_resp.specs.Spelling.{command_text, word_text};
+ghost use Rattle.sj_streams.specs.Answers.{failure_at};
 ghost use Rattle.sj_streams.specs.Commands.{get_words};
 ghost use Rattle.sj_streams.specs.Gathering.{IsReply};
 ghost use Rattle.sj_streams.specs.Views.{came_view};
 ghost use Rattle.sj_streams.specs.Words.{tokens_at, words_at};
 ghost use Rattle.sj_join.specs.Causes.{IsNoCount, IsNoEntry, IsNoRead, IsNoText, IsUnanswered, IsUnheard};
 ghost use Rattle.sj_join.specs.Refusals.{refusal_of_misread};
-ghost use Rattle.sj_join.specs.Talk.{Brings, Counts, Gives, IsAnswered, drop_text, keys_at, read_text, seen_none};
+ghost use Rattle.sj_join.specs.Talk.{Admits, Brings, Counts, Gives, IsAnswered, drop_text, keys_at, read_text, seen_none};
 
 use crate::JoinRefusal;
 use sj_base::{NoMemory, Sink, Source};
@@ -50,6 +51,7 @@ fn ask<S: Source, K: Sink>(
     ensures sent { OnOk result (K.written (sink_of conn.new) ≡ put_behind (K.written (sink_of conn.old)) text.now) }
     ensures replied { IfOk result (λ tokens. Replied S.left conn.old conn.new (tokens_at tokens.items)) }
     ensures whole { IfOk result (λ tokens. IsReply (tokens_at tokens.items)) }
+    ensures well { IfOk result (λ tokens. failure_at (tokens_at tokens.items) ≡ None) }
     ensures refused { IfErr result
         (IsUnheard S.left S.faults S.has_ended K.faults conn.old conn.new) }
 {
@@ -75,6 +77,7 @@ pub fn sign_in<S: Source, K: Sink>(
 ) -> Result<(), JoinRefusal>
     ensures sent { OnOk result (K.written (sink_of conn.new) ≡ put_behind (K.written (sink_of conn.old))
         (command_text (auth_words (option_map (λ u. u.now) user.entry) password.now))) }
+    ensures admitted { OnOk result (IsAnswered S.left conn.old conn.new Admits) }
     ensures refused { IfErr result (IsUnanswered S.left S.faults S.has_ended K.faults
         conn.old conn.new IsNoEntry) }
 {

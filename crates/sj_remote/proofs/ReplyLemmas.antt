@@ -8,7 +8,7 @@ use Rattle.sj_resp.specs.Token.{TokenAt}
 use Rattle.sj_resp.specs.declared.refusal.RespRefusal.{RespRefusal}
 use Rattle.sj_resp.specs.declared.refusal.RespRefusal.TheVariants as refusals
 use Rattle.sj_resp.proofs.StayLemmas.{whole_stays}
-use Rattle.sj_streams.specs.Gathering.{Took, due_after, due_in, parts_of, tokens_in}
+use Rattle.sj_streams.specs.Gathering.{AreDue, IsReply, Took, due_after, due_in, parts_of, tokens_in}
 use Rattle.sj_streams.specs.declared.reply.Reply.{Reply}
 use Rattle.sj_remote.specs.declared.refusal.ConnRefusal.TheVariants as conns
 use Rattle.sj_remote.specs.Conn.{conn_refusal, Hears, Replied, heard, source_of}
@@ -54,6 +54,15 @@ pub due_none : due_after 1 [] ≡ 1
 unfolding due_after
 due_none = refl
 
+all_due : (n : ℕ) (ts us : List TokenAt) → AreDue n ts → AreDue (due_after n ts) us → AreDue n (ts ++ us)
+unfolding due_after AreDue
+all_due n [] us some more = more
+all_due n (t ∷ ts) us some more = (some.0, all_due (min (n - 1 + parts_of t) (2 ^ 64 - 1)) ts us some.1 more)
+
+pub none_due : AreDue 1 []
+unfolding AreDue
+none_due = tt
+
 module _ {S K : Type 0} (left : S → Option (List ℕ)) where
   -- nothing came
   pub none_replied : (c : Conn S K) → Replied left c c []
@@ -84,15 +93,22 @@ module _ {S K : Type 0} (left : S → Option (List ℕ)) where
   pub record Gathered (old new : Conn S K) (r : Reply) : Type 0 where
     pub replied : Replied left old new (tokens_in r)
     pub due : due_in r ≡ due_after 1 (tokens_in r)
+    pub needed : AreDue 1 (tokens_in r)
 
   pub gathered : (old mid new : Conn S K) (r s : Reply) → Gathered old mid r → source_of new ≡ source_of mid → Took r s (heard mid) (heard new) → Gathered old new s
   gathered old mid new r s g same took = record {
     replied = subst (λ (ts : List TokenAt). Replied left old new ts) (sym took.after) (replied_more old mid new (tokens_in r) took.tokens g.replied same took.read);
     due = took.due ∙ ap (λ n. due_after n took.tokens) g.due ∙ sym (due_both 1 (tokens_in r) took.tokens) ∙ ap (due_after 1) (sym took.after);
+    needed = subst (λ (ts : List TokenAt). AreDue 1 ts) (sym took.after)
+        (all_due 1 (tokens_in r) took.tokens g.needed (subst (λ (n : ℕ). AreDue n took.tokens) g.due took.needed));
   }
 
   pub gathered_hears : (old mid new : Conn S K) (r : Reply) → Gathered old mid r → Hears left mid new → Gathered old new r
-  gathered_hears old mid new r g h = record { replied = replied_hears old mid new (tokens_in r) g.replied h; due = g.due }
+  gathered_hears old mid new r g h = record { replied = replied_hears old mid new (tokens_in r) g.replied h; due = g.due; needed = g.needed }
+
+  -- they are a reply where nothing is still to come
+  pub whole_reply : (old new : Conn S K) (r : Reply) (tokens : List TokenAt) → Gathered old new r → due_in r ≡ 0 → tokens ≡ tokens_in r → IsReply tokens
+  whole_reply old new r tokens g none same = subst (λ (ts : List TokenAt). IsReply ts) (sym same) (record { whole = sym g.due ∙ none; needed = g.needed })
 
 pub err_is : {T E : Type 0} {x y : E} → ◌≡◌ {A = Result T E} (Err x) (Err y) → x ≡ y
 err_is e = cc

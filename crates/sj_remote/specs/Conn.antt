@@ -6,6 +6,7 @@ use Rattle.sj_resp.specs.Front.{Refused, front_of}
 use Rattle.sj_resp.specs.Token.{TokenAt}
 use Rattle.sj_resp.specs.declared.refusal.RespRefusal.{RespRefusal}
 use Rattle.sj_resp.specs.declared.refusal.RespRefusal.TheVariants as refusals
+use Rattle.sj_streams.specs.Gathering.{AreDue, due_after}
 use Rattle.sj_remote.specs.declared.conn.Conn.{Conn}
 use Rattle.sj_remote.specs.declared.refusal.ConnRefusal.{ConnRefusal}
 use Rattle.sj_remote.specs.declared.refusal.ConnRefusal.TheVariants as conns
@@ -47,9 +48,11 @@ module _ {S K : Type 0} where
   abbrev pub IsLost : (S → ℕ) → (S → Type 0) → (old new : Conn S K) → Type 0
   IsLost faults has_ended old new = Rose (faults (source_of old)) (faults (source_of new)) ⊎ has_ended (source_of new)
 
-  -- after some tokens comes what is no token, whatever bytes follow
+  -- after some tokens of a reply that isn't whole comes what is no token, whatever bytes follow
   pub record IsNoReply (left : S → Option (List ℕ)) (old new : Conn S K) : Type 0 where
     pub tokens : List TokenAt
     pub replied : Replied left old new tokens
+    pub begun : AreDue 1 tokens
+    pub short : 0 < due_after 1 tokens
     pub cause : RespRefusal
     pub refused : front_of (heard new) ≡ Refused cause

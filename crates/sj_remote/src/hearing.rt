@@ -1,5 +1,5 @@
 //! Replies as they come.
-ghost use Rattle.std.specs.Prelude.{◌≡◌, ◌≤◌, ◌↔◌, IfOk, IsErrOf, IsTrue};
+ghost use Rattle.std.specs.Prelude.{◌≡◌, ◌<◌, ◌≤◌, ◌↔◌, IfOk, IsErrOf, IsTrue, OnErr};
 ghost use Rattle.sj_resp.specs.Front.{Refused, front_of};
 ghost use Rattle.sj_resp.specs.declared.refusal.RespRefusal.{RespRefusal as WhyNot};
 ghost use Rattle.sj_remote.specs.Conn.{conn_refusal, IsLost, IsNoReply, Replied, heard, sink_of, source_of};
@@ -30,6 +30,7 @@ impl<S: Source, K: Sink> Conn<S, K> {
         ensures no_reply { IsErrOf result ConnRefusal.NoReply →
             (e : WhyNot) × (front_of (heard self.new) ≡ Refused e) }
         ensures lost { IsErrOf result ConnRefusal.Lost → ⊥ }
+        ensures short { OnErr result (0 < due_in reply.new) }
         ensures source { source_of self.new ≡ source_of self.old }
         ensures sink { sink_of self.new ≡ sink_of self.old }
     {

@@ -1,7 +1,7 @@
 //! The streams of a run, and how far each was read.
 ghost use Rattle.std.specs.Prelude.{◌≡◌, ◌<◌, ◌+◌, ◌^◌, ◌++◌, [], get_or, length, set};
 ghost use Rattle.std.specs.Prelude.{vec_items, vec_len, IfOk, OnErr, OnOk};
-ghost use Rattle.sj_remote.specs.Numbers.{AreUnseen, IsFew};
+ghost use Rattle.sj_remote.specs.Numbers.{AreUnseen, IsFew, IsNoNumber};
 ghost use Rattle.sj_resp.specs.Spelling.{command_text};
 ghost use Rattle.sj_streams.specs.Commands.{read_words};
 ghost use Rattle.sj_streams.specs.Words.{words_at};
@@ -82,6 +82,7 @@ impl Streams {
         ensures seen { OnOk result (seen_of self.new
             ≡ set (seen_of self.old) stream (get_or (seen_of self.old) stream 0 + more)) }
         ensures err { OnErr result (seen_of self.new ≡ seen_of self.old) }
+        ensures cause { OnErr result (IsNoNumber (seen_of self.old) stream more) }
     {
         if stream >= self.seen.len() {
             return Err(NoNumber);

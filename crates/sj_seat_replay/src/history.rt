@@ -15,8 +15,10 @@ use sj_seats::SeatedWorld;
 
 // The lines, one after the other.
 fn put_lines(text: &mut Vec<u8>, file: &File, lines: &[Line]) -> Result<(), NoMemory>
-    ensures { OnOk result (text.new.items
+    ensures all { OnOk result (text.new.items
         ≡ text.old.items ++ log_text (file_of file.now) (map line_at lines.now)) }
+    ensures part { OnErr result (IsCutShort text.old.items
+        (log_text (file_of file.now) (map line_at lines.now)) text.new.items) }
 {
     for line in lines {
         print_line(text, file, line)?;
@@ -26,10 +28,13 @@ fn put_lines(text: &mut Vec<u8>, file: &File, lines: &[Line]) -> Result<(), NoMe
 
 /// Puts the history of the world after the text: the line `%%log`, or `%%log2` where a session was
 /// opened, and then a line for each event. So the file, followed by it, is the source of a replay.
-/// Out of memory, it leaves a part of that after the text.
+/// Out of memory, it leaves a prefix of that after the text.
+#[tactic(auto, using(sj_text::proofs::CutLemmas::cuts))]
 pub fn put_history(text: &mut Vec<u8>, file: &File, world: &SeatedWorld) -> Result<(), NoMemory>
-    ensures { OnOk result (text.new.items
+    ensures all { OnOk result (text.new.items
         ≡ text.old.items ++ history_text (file_of file.now) (history_of world.now)) }
+    ensures part { OnErr result (IsCutShort text.old.items
+        (history_text (file_of file.now) (history_of world.now)) text.new.items) }
 {
     print_mark(text, world.history())?;
     put_lines(text, file, world.history())

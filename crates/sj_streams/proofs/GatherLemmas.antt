@@ -1,5 +1,5 @@
 -- A token at the front takes bytes, and comes after those before it.
-use Rattle.std.proofs.Common.{◌≡◌, ℕ, ◌+◌, ◌-◌, ◌^◌, ◌<◌, ◌≤◌, min, Bool, true, false, cond, eqb, ltb, ◌&&◌, List, [], ◌∷◌, ◌++◌, length, take, drop, slice_index, Option, Some, None, refl, sym, ap, ◌∙◌, append_assoc, append-nil, arith}
+use Rattle.std.proofs.Common.{◌≡◌, ℕ, ◌+◌, ◌-◌, ◌^◌, ◌<◌, ◌≤◌, min, Bool, true, false, cond, eqb, ltb, ◌&&◌, List, [], ◌∷◌, ◌++◌, length, take, drop, slice_index, Option, Some, None, refl, sym, ap, subst, ◌∙◌, append_assoc, append-nil, arith}
 use Rattle.std.proofs.lemmas.List.{length-drop, map-append}
 use Rattle.sj_resp.specs.Command.{AreRead}
 use Rattle.sj_resp.specs.Front.{Front, Cut, Refused, Whole, of_number, of_size, bytes_of, is_null, is_kind, token_of, line_end, line_then, front_of}
@@ -8,7 +8,7 @@ use Rattle.sj_resp.specs.Numbers.{int_in, number_in}
 use Rattle.sj_resp.specs.Token.{TokenAt, Int, Bulk, Array, token_at}
 use Rattle.sj_resp.specs.declared.token.Token.{Token}
 use Rattle.sj_streams.specs.Words.{tokens_at}
-use Rattle.sj_streams.specs.Gathering.{Took, due_after, due_in, parts_of, tokens_in}
+use Rattle.sj_streams.specs.Gathering.{AreDue, Took, due_after, due_in, parts_of, tokens_in}
 use Rattle.sj_streams.specs.declared.reply.Reply.{Reply}
 
 -- what is left after a token is no more than that
@@ -92,19 +92,26 @@ unfolding due_after
 due_more n [] t = refl
 due_more n (u ∷ ts) t = due_more (min (n - 1 + parts_of u) (2 ^ 64 - 1)) ts t
 
+-- it was still to come, as those before it were
+more_due : (n : ℕ) (ts : List TokenAt) (t : TokenAt) → AreDue n ts → 0 < due_after n ts → AreDue n (ts ++ t ∷ [])
+unfolding due_after AreDue
+more_due n [] t all due = (due, tt)
+more_due n (u ∷ ts) t all due = (all.0, more_due (min (n - 1 + parts_of u) (2 ^ 64 - 1)) ts t all.1 due)
+
 -- nothing is taken
 pub took_none : (r : Reply) (bytes : List ℕ) → Took r r bytes bytes
-unfolding due_after
-took_none r bytes = record { tokens = []; read = refl; after = sym (append-nil (tokens_in r)); due = refl }
+unfolding due_after AreDue
+took_none r bytes = record { tokens = []; read = refl; after = sym (append-nil (tokens_in r)); due = refl; needed = tt }
 
 -- one more token is taken
-pub took_more : (old mid new : Reply) (bytes left rest : List ℕ) (t : TokenAt) → Took old mid bytes left → front_of left ≡ Whole t rest → tokens_in new ≡ tokens_in mid ++ t ∷ [] → due_in new ≡ min (due_in mid - 1 + parts_of t) (2 ^ 64 - 1)
-    → Took old new bytes rest
-took_more old mid new bytes left rest t took is after due = record {
+pub took_more : (old mid new : Reply) (bytes left rest : List ℕ) (t : TokenAt) → Took old mid bytes left → 0 < due_in mid → front_of left ≡ Whole t rest → tokens_in new ≡ tokens_in mid ++ t ∷ []
+    → due_in new ≡ min (due_in mid - 1 + parts_of t) (2 ^ 64 - 1) → Took old new bytes rest
+took_more old mid new bytes left rest t took some is after due = record {
   tokens = took.tokens ++ t ∷ [];
   read = read_more took.tokens bytes left rest t took.read is;
   after = after ∙ ap (λ (l : List TokenAt). l ++ t ∷ []) took.after ∙ append_assoc (tokens_in old) took.tokens (t ∷ []);
   due = due ∙ ap (λ n. min (n - 1 + parts_of t) (2 ^ 64 - 1)) took.due ∙ sym (due_more (due_in old) took.tokens t);
+  needed = more_due (due_in old) took.tokens t took.needed (subst (λ (n : ℕ). 0 < n) took.due some);
 }
 
 -- a token that is put after the others

@@ -1,5 +1,5 @@
 //! The tokens of a reply, as they come.
-ghost use Rattle.std.specs.Prelude.{◌≡◌, ◌↔◌, [], IfErr, IfOk, IsFalse, IsTrue};
+ghost use Rattle.std.specs.Prelude.{◌≡◌, ◌<◌, ◌↔◌, [], IfErr, IfOk, IsFalse, IsTrue, OnErr};
 ghost use Rattle.sj_resp.specs.Front.{Cut, front_of};
 ghost use Rattle.sj_resp.specs.Reads.{IsRefused};
 ghost use Rattle.sj_resp.specs.Token.{token_at};
@@ -47,6 +47,7 @@ impl Reply {
         ensures whole { IfOk result (λ b. IsTrue b ↔ (due_in self.new ≡ 0)) }
         ensures cut { IfOk result (λ b. IsFalse b → front_of decoder.new ≡ Cut) }
         ensures refused { IfErr result (λ e. IsRefused e (front_of decoder.new)) }
+        ensures short { OnErr result (0 < due_in self.new) }
     {
         while self.due > 0 {
             if self.tokens.reserve(1).is_err() {

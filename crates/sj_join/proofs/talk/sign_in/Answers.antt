@@ -9,4 +9,4 @@ pub returns-clause-refused : goal.returns-clause-refused
 returns-clause-refused g c =
     subst (IsUnanswered g.S.Source.left g.S.Source.faults g.S.Source.has_ended g.K.Sink.faults c.args.conn.now c.ask.new.conn IsNoEntry) (sym c.misread_means.ensures)
     (misread_is_none g.S.Source.left g.S.Source.faults g.S.Source.has_ended g.K.Sink.faults IsNoEntry c.args.conn.now c.ask.new.conn
-    (tokens_at c.in-Ok.tokens.items) c.in-Ok.ensures.replied (well_at (tokens_at c.in-Ok.tokens.items)) (λ none. none) c.in-Err-read_well.e c.in-Err-read_well.ensures)
+    (tokens_at c.in-Ok.tokens.items) c.in-Ok.ensures.replied (well_at (tokens_at c.in-Ok.tokens.items)) (λ none. (c.in-Ok.ensures.well, none)) c.in-Err-read_well.e c.in-Err-read_well.ensures)

@@ -9,6 +9,7 @@ returns-in-Err g c = record {
   whole = tt;
   no_reply = λ is. no_reply_cause c.in-Err.e (front_of c.gather.new.decoder) c.in-Err.ensures.refused (sym c.refusal_for.ensures ∙ err_is is);
   lost = λ is. never_lost c.in-Err.e (sym c.refusal_for.ensures ∙ err_is is);
+  short = c.in-Err.ensures.short;
   source = refl;
   sink = refl;
 }

@@ -17,4 +17,4 @@ loop-self-preserved c =
     let all : tokens_at c.push_back_reserved.new.self.items ≡ tokens_in c.loop-self.self ++ t ∷ [] =
     put_after c.loop-self.self.tokens.items c.reserve.new.self.items c.push_back_reserved.new.self.items c.in-Ok-Some.token c.reserve.ensures.items c.push_back_reserved.ensures.items in
     let due : c.saturating_add-self.result ≡ min (c.loop-self.self.due - 1 + parts_of t) (2 ^ 64 - 1) = c.saturating_add-self.ensures ∙ ap (λ n. min (c.loop-self.self.due - 1 + n) (2 ^ 64 - 1)) (c.from.ensures ∙ c.parts.ensures) in
-    took_more c.args.self.now c.loop-self.self _ c.args.decoder.now c.loop-self.decoder c.next.new.self t c.loop-self.invariant (rw c.in-Ok-Some.field-0-is at c.in-Ok-Some.ensures.token) all due
+    took_more c.args.self.now c.loop-self.self _ c.args.decoder.now c.loop-self.decoder c.next.new.self t c.loop-self.invariant c.loop-self-test.true (rw c.in-Ok-Some.field-0-is at c.in-Ok-Some.ensures.token) all due
