@@ -14,7 +14,10 @@ use Rattle.sj_node.specs.Reading.{TakesOut, party_of}
 use Rattle.sj_table.specs.Spots.{start_in}
 use Rattle.sj_work.specs.Laned.{entries_of}
 use Rattle.sj_engine.specs.Redone.{Redone}
-use Rattle.sj_remote_run.specs.Again.{IsRedone, Went}
+use Rattle.sj_engine.specs.declared.out_lane.ByteOut.{ByteOut}
+use Rattle.sj_remote_run.specs.Again.{IsRedone, Went, WentFor}
+use Rattle.sj_remote_run.specs.Posts.{GoesOut, has_for}
+use Rattle.sj_remote_run.proofs.PostLemmas.{posts_none, posts_step, posts_still, posts_then}
 
 -- nothing was done
 pub went_none : (a : Node) → Went a a
@@ -48,6 +51,28 @@ module _ (a b : Node) (x : Went a b) where
     play = sym (λ i. play_with (start_in (sym t.table i)) (sym t.connects i) (sym t.parties i)) ∙ x.play;
     party = t.party ∙ x.party;
     parties = t.parties ∙ x.parties;
+  }
+
+-- the same, with what it has for the others
+pub for_none : (outs : List ByteOut) (a : Node) → WentFor outs a outs a
+unfolding went_none
+for_none outs a = record { went = went_none a; posts = posts_none (party_of a) (has_for outs a) (has_for outs a) (λ q other. refl) }
+
+module _ (outs : List ByteOut) (a : Node) (later : List ByteOut) (b : Node) (x : WentFor outs a later b) where
+  pub for_more : (c : Node) (e : Entry) → IsRedone b c e → WentFor outs a later c
+  unfolding went_more
+  for_more c e r =
+      let y : Redone b c r.0 e = r.1 in
+      record {
+        went = went_more a b x.went c e r;
+        posts = posts_then (party_of a) x.went.steps (y.step ∷ []) (has_for outs a) (has_for later b) (has_for later c) x.posts (λ q other. posts_step (party_of a) y.step later b c y.box q other);
+      }
+
+  pub for_out : (last : List ByteOut) (c : Node) → TakesOut b c → GoesOut later b last c → WentFor outs a last c
+  unfolding went_out
+  for_out last c t g = record {
+    went = went_out a b x.went c t;
+    posts = posts_still (party_of a) x.went.steps (has_for outs a) (has_for later b) (has_for last c) x.posts (λ q other. g.same q (λ is. other (is ∙ x.went.party)));
   }
 
 -- no frame went to a lane

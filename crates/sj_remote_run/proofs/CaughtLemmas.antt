@@ -77,6 +77,7 @@ pub again_batch : (file : FileAt) (words : List (List ℕ)) (a b : Node) (d : Di
 again_batch file words a b d none = record {
   run = subst (λ (n : NodeAt Place Program). NodeRun (play_here a) max (party_of a) (node_at a) d.went.steps n) (sym d.taken.node) d.went.run;
   notes = d.went.log ∙ ap (λ (l : List Entry). entries_of l ++ map (λ s. s.entry) d.went.steps) none;
+  frames = d.frames;
 }
 
 pub record Rebuilt (file : FileAt) (entries : List (List (List ℕ))) (a b : Node) : Type 0 where

@@ -3,6 +3,7 @@ pub mod CaughtLemmas
 pub mod CauseLemmas
 pub mod GoesLemmas
 pub mod PlayedLemmas
+pub mod PostLemmas
 pub mod RefusedLemmas
 pub mod SentLemmas
 pub mod TalkedLemmas

@@ -15,6 +15,7 @@ use Rattle.sj_rules.specs.Node.{Play}
 use Rattle.sj_semantics.specs.Program.{Program}
 use Rattle.sj_streams.specs.Commands.{read_words}
 use Rattle.sj_engine.specs.Lanes.{pushed_on}
+use Rattle.sj_remote_run.specs.Posts.{HasNone}
 use Rattle.sj_remote_run.specs.Sent.{AreSent, Asks, CommandAt, Reads, text_sent, words_sent}
 use Rattle.sj_remote_run.specs.Turns.{Goes, added_count, batch_text, next_seen, node_in, outs_in}
 use Rattle.sj_remote_run.specs.declared.outcome.Outcome.{Outcome}
@@ -96,13 +97,13 @@ module _ (file : FileAt) (run : List ℕ) (keys : List (List ℕ)) (old : Node) 
   }
 
   module _ (mid new : Player) (o : Outcome) (noted : List Entry) (g : Goes mid new o noted) (seen : List ℕ) (between after : Option (List ℕ))
-      (w : Going (text_sent file run keys (party_of old)) first (get_or seen (party_of old) 0) old (node_in mid) before between) where
+      (w : Going (text_sent file run keys (party_of old)) first (get_or seen (party_of old) 0) old (node_in mid) before between) (none : HasNone (outs_in mid) (node_in mid)) where
     -- a turn without a read
     pub turn_adds : after ≡ put_behind between (batch_text keys seen file (party_of old) noted (map pushed_on (outs_in new)))
         → Going (text_sent file run keys (party_of old)) first (get_or seen (party_of old) 0 + added_count noted) old (node_in new) before after
     turn_adds wrote = going_more (get_or seen (party_of old) 0) (get_or seen (party_of old) 0 + added_count noted) (node_in mid) (node_in new) between after
         (adds_by (get_or seen (party_of old) 0 + 1) noted (batch_of mid new o noted g)) w
-        (batch_sent (play_here (node_in mid)) (party_of (node_in mid)) (get_or seen (party_of old) 0) (node_at (node_in mid)) (node_at (node_in new)) (batch_of mid new o noted g) (goes_batch mid new o noted g w.empty))
+        (batch_sent (play_here (node_in mid)) (party_of (node_in mid)) (get_or seen (party_of old) 0) (node_at (node_in mid)) (node_at (node_in new)) (batch_of mid new o noted g) (goes_batch mid new o noted g w.empty none))
         (goes_play mid new o noted g) (goes_party mid new o noted g) g.empty
         (wrote ∙ ap (put_behind between) (batch_is file run keys (party_of old) seen (batch_of mid new o noted g)))
 
@@ -116,7 +117,7 @@ module _ (file : FileAt) (run : List ℕ) (keys : List (List ℕ)) (old : Node) 
         let end : ℕ = get_or seen (party_of old) 0 + added_count noted in
         going_more (get_or seen (party_of old) 0) end (node_in mid) (node_in new) between after (cs ++ read ∷ []) w
         (sent_both (play_here (node_in mid)) (party_of (node_in mid)) cs (read ∷ []) (get_or seen (party_of old) 0) end end (node_at (node_in mid)) (node_at (node_in new)) (node_at (node_in new))
-        (batch_sent (play_here (node_in mid)) (party_of (node_in mid)) (get_or seen (party_of old) 0) (node_at (node_in mid)) (node_at (node_in new)) (batch_of mid new o noted g) (goes_batch mid new o noted g w.empty))
+        (batch_sent (play_here (node_in mid)) (party_of (node_in mid)) (get_or seen (party_of old) 0) (node_at (node_in mid)) (node_at (node_in new)) (batch_of mid new o noted g) (goes_batch mid new o noted g w.empty none))
         (refl, refl))
         (goes_play mid new o noted g) (goes_party mid new o noted g) g.empty
         (wrote ∙ ap (put_behind between)

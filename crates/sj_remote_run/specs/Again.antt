@@ -10,7 +10,9 @@ use Rattle.sj_node.specs.Node.{log_of, node_at, play_here}
 use Rattle.sj_node.specs.Reading.{TakesEntry, parties_of, party_of}
 use Rattle.sj_work.specs.Laned.{entries_of}
 use Rattle.sj_engine.specs.Redone.{Redone}
+use Rattle.sj_engine.specs.declared.out_lane.ByteOut.{ByteOut}
 use Rattle.sj_remote_run.specs.Entries.{entry_words}
+use Rattle.sj_remote_run.specs.Posts.{AreFrames, Posts, has_for}
 
 -- the party went by these steps, and noted their entries
 pub record Went (old new : Node) : Type 0 where
@@ -21,11 +23,16 @@ pub record Went (old new : Node) : Type 0 where
   pub party : party_of new ≡ party_of old
   pub parties : parties_of new ≡ parties_of old
 
+-- what its steps post to others came after what it had for them
+pub record WentFor (outs : List ByteOut) (old : Node) (later : List ByteOut) (new : Node) : Type 0 where
+  pub went : Went old new
+  pub posts : Posts (party_of old) went.steps (has_for outs old) (has_for later new)
+
 -- the entry was done again as some deed
 abbrev pub IsRedone : (old new : Node) → Entry → Type 0
 IsRedone old new e = (deed : Deed Place) × Redone old new deed e
 
--- the party went by steps, and the words are the entry of all that it noted: its lines, and frames
+-- the party went by steps, and the words are the entry of all that it noted: its lines, and the frames that the steps post
 pub record DidAgain (file : FileAt) (words : List (List ℕ)) (old new : Node) : Type 0 where
   pub node : Node
   pub went : Went old node
@@ -33,3 +40,4 @@ pub record DidAgain (file : FileAt) (words : List (List ℕ)) (old new : Node) :
   pub spelt : words ≡ entry_words file (party_of node) (log_of node) posts
   pub taken : TakesEntry node new
   pub empty : log_of new ≡ []
+  pub frames : AreFrames (parties_of old) (party_of old) went.steps posts

@@ -2,6 +2,7 @@ pub mod Again
 pub mod Causes
 pub mod Refused
 pub mod Asked
+pub mod Posts
 pub mod Entries
 pub mod Turns
 pub mod Batches

@@ -10,7 +10,7 @@ use Rattle.sj_lang.specs.FileAt.{FileAt}
 use Rattle.sj_lang.specs.Place.{Place}
 use Rattle.sj_node.specs.declared.node.Node.{Node}
 use Rattle.sj_node.specs.Node.{log_of}
-use Rattle.sj_node.specs.Reading.{IsFinished, TakesEntry}
+use Rattle.sj_node.specs.Reading.{IsFinished, TakesEntry, TakesOut}
 use Rattle.sj_resp.specs.Spelling.{command_text}
 use Rattle.sj_rules.specs.Frames.{FrameAt}
 use Rattle.sj_rules.specs.Work.{LostAt}
@@ -21,6 +21,7 @@ use Rattle.sj_work.specs.declared.worker.Stop.{Stop}
 use Rattle.sj_work.specs.declared.worker.Stop.TheVariants as stops
 use Rattle.sj_work.specs.declared.worker.Worker.{Worker}
 use Rattle.sj_remote_run.specs.Entries.{entry_words}
+use Rattle.sj_remote_run.specs.Posts.{GoesOut}
 use Rattle.sj_remote_run.specs.declared.outcome.Outcome.{Outcome}
 use Rattle.sj_remote_run.specs.declared.outcome.Outcome.TheVariants as outcomes
 use Rattle.sj_remote_run.specs.declared.refusal.PlayRefusal.{PlayRefusal}
@@ -61,8 +62,10 @@ pub record Goes (old new : Player) (outcome : Outcome) (noted : List Entry) : Ty
   pub finished : Bool
   pub stands : outcome_by stop finished ≡ Ok outcome
   pub ended : finished ≡ true → IsFinished (node_in new)
-  pub taken : TakesEntry (node_of to) (node_in new)
-  pub left : lanes_of to ≡ lanes_in new
+  pub apart : Node
+  pub taken : TakesEntry (node_of to) apart
+  pub taken_out : TakesOut apart (node_in new)
+  pub goes_out : GoesOut (lanes_of to).outs.items apart (outs_in new) (node_in new)
   pub notes : log_of (node_of to) ≡ noted
   pub empty : log_of (node_in new) ≡ []
 

@@ -5,6 +5,7 @@ ghost use Rattle.sj_lang.specs.FileView.{file_of};
 ghost use Rattle.sj_node.specs.Reading.{party_of};
 ghost use Rattle.sj_remote.specs.Streams.{keys_of, seen_of};
 ghost use Rattle.sj_remote_run.specs.Asked.{IsInside};
+ghost use Rattle.sj_remote_run.specs.Posts.{HandsOver};
 ghost use Rattle.sj_remote_run.specs.Turns.{added_count, batch_text, next_seen, node_in, outs_in};
 ghost use Rattle.sj_streams.specs.Words.{words_at};
 
@@ -38,6 +39,7 @@ pub(crate) fn put_batch(
         ≡ get_or (seen_of streams.old) (party_of (node_in player.old)) 0 + added_count noted.now) }
     ensures keys { keys_of streams.new ≡ keys_of streams.old }
     ensures node { node_in player.new ≡ node_in player.old }
+    ensures lanes { OnOk result (HandsOver noted.now (outs_in player.old) (outs_in player.new)) }
     ensures refused { IfErr result IsInside }
 {
     if noted.is_empty() {

@@ -2,8 +2,9 @@
 ghost use Rattle.std.specs.Prelude.{◌≡◌, IfErr, IsTrue, OnOk};
 ghost use Rattle.sj_check.specs.Held.{file_in};
 ghost use Rattle.sj_lang.specs.FileView.{file_of};
-ghost use Rattle.sj_remote_run.specs.Again.{DidAgain, Went};
+ghost use Rattle.sj_remote_run.specs.Again.{DidAgain, WentFor};
 ghost use Rattle.sj_remote_run.specs.Asked.{IsInside};
+ghost use Rattle.sj_remote_run.specs.Posts.{HasNone, IsOut};
 ghost use Rattle.sj_streams.specs.Words.{words_at};
 
 use crate::PlayRefusal;
@@ -34,7 +35,8 @@ pub fn lines_in(alloc: Global, file: &File, text: &[u8]) -> Result<Vec<Line>, Pl
     }
 }
 
-/// Does the events of a batch again, whose lines these are.
+/// Does the events of a batch again, whose lines these are. What each of them posts is on its lane
+/// before the next.
 fn redo_lines(
     alloc: Global,
     accepted: &Accepted,
@@ -42,7 +44,9 @@ fn redo_lines(
     lanes: &mut Lanes<ByteOut, ByteIn>,
     text: &[u8],
 ) -> Result<(), PlayRefusal>
-    ensures went { OnOk result (Went node.old node.new) }
+    ensures went { OnOk result
+        (WentFor lanes.old.outs.items node.old lanes.new.outs.items node.new) }
+    ensures out { OnOk result (IsOut lanes.new.outs.items node.new) }
     ensures refused { IfErr result IsInside }
 {
     let lines = lines_in(alloc, accepted.file(), text)?;
@@ -50,10 +54,10 @@ fn redo_lines(
         if line.party != node.party() {
             return Err(PlayRefusal::LogFault);
         }
-        redo(node, &mut lanes.ins, &line.entry)?;
         push_all(alloc, node, lanes)?;
+        redo(node, &mut lanes.ins, &line.entry)?;
     }
-    Ok(())
+    push_all(alloc, node, lanes)
 }
 
 /// Whether they are the same words.
@@ -80,8 +84,10 @@ pub fn do_again(
     lanes: &mut Lanes<ByteOut, ByteIn>,
     words: &[Vec<u8>],
 ) -> Result<(), PlayRefusal>
+    requires { HasNone lanes.old.outs.items node.old }
     ensures again { OnOk result
         (DidAgain (file_of (file_in accepted.now)) (words_at words.now) node.old node.new) }
+    ensures none { OnOk result (HasNone lanes.new.outs.items node.new) }
     ensures refused { IfErr result IsInside }
 {
     let Some(text) = lines_of(words) else {

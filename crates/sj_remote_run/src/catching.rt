@@ -7,6 +7,7 @@ ghost use Rattle.sj_remote.specs.Conn.{sink_of};
 ghost use Rattle.sj_remote.specs.Streams.{keys_of, seen_of};
 ghost use Rattle.sj_remote_run.specs.Asked.{IsCause, IsInside, IsOfStreams, Talks};
 ghost use Rattle.sj_remote_run.specs.Caught.{DidAll, IsCaughtUp, entries_in, entry_count, reads_text};
+ghost use Rattle.sj_remote_run.specs.Posts.{AreClear, HasNone};
 ghost use Rattle.sj_resp.specs.Spelling.{command_text};
 ghost use Rattle.sj_streams.specs.Commands.{read_words};
 ghost use Rattle.sj_streams.specs.Words.{words_at};
@@ -27,7 +28,8 @@ use std::alloc::Global;
 
 /// Lanes to and from so many parties, on which nothing was sent.
 pub fn new_lanes(alloc: Global, parties: u16) -> Result<Lanes<ByteOut, ByteIn>, PlayRefusal>
-    ensures { IfErr result IsInside }
+    ensures clear { IfOk result (λ lanes. AreClear lanes.outs.items) }
+    ensures refused { IfErr result IsInside }
 {
     let mut outs = Vec::new(alloc);
     let mut ins = Vec::new(alloc);
@@ -136,8 +138,10 @@ fn redo_came(
     lanes: &mut Lanes<ByteOut, ByteIn>,
     entries: &[Vec<Vec<u8>>],
 ) -> Result<(), PlayRefusal>
+    requires { HasNone lanes.old.outs.items node.old }
     ensures did { OnOk result (DidAll (file_of (file_in accepted.now))
         (map (λ e. words_at e.items) entries.now) node.old node.new) }
+    ensures none { OnOk result (HasNone lanes.new.outs.items node.new) }
     ensures refused { IfErr result IsInside }
 {
     for words in entries {
@@ -154,8 +158,10 @@ fn redo_all(
     lanes: &mut Lanes<ByteOut, ByteIn>,
     own: &[Came],
 ) -> Result<(), PlayRefusal>
+    requires { HasNone lanes.old.outs.items node.old }
     ensures did { OnOk result (DidAll (file_of (file_in accepted.now))
         (entries_in own.now) node.old node.new) }
+    ensures none { OnOk result (HasNone lanes.new.outs.items node.new) }
     ensures refused { IfErr result IsInside }
 {
     for came in own {
@@ -181,6 +187,7 @@ pub(crate) fn catch_up<S: Source, K: Sink>(
     ensures again { IfOk result (λ r. get_or (seen_of streams.old) party 0 ≡ 0
         → IsCaughtUp (file_of (file_in accepted.now)) party
         (get_or (seen_of streams.new) party 0) r.0) }
+    ensures none { IfOk result (λ r. HasNone r.1.outs.items r.0) }
     ensures talked { OnOk result (Talks S.left S.faults K.faults conn.old conn.new) }
     ensures refused { IfErr result (IsCause S.left S.faults S.has_ended K.faults
         (IsOfStreams (words_at (keys_of streams.old)) party) conn.old conn.new) }

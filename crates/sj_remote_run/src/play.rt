@@ -9,8 +9,9 @@ ghost use Rattle.sj_party.specs.CanonicalFile.{file_text};
 ghost use Rattle.sj_remote.specs.Streams.{keys_of, log_keys, seen_of};
 ghost use Rattle.sj_remote_run.specs.Asked.{IsCause, IsInPlay, IsOfStreams, sign_count};
 ghost use Rattle.sj_remote_run.specs.Played.{GoesOn, IsPlayed};
+ghost use Rattle.sj_remote_run.specs.Posts.{HasNone};
 ghost use Rattle.sj_remote_run.specs.Sent.{text_sent};
-ghost use Rattle.sj_remote_run.specs.Turns.{node_in};
+ghost use Rattle.sj_remote_run.specs.Turns.{node_in, outs_in};
 ghost use Rattle.sj_streams.specs.Words.{words_at};
 
 use crate::catching::catch_up;
@@ -47,6 +48,7 @@ fn go_on<S: Source, K: Sink>(
     streams: &mut Streams,
 ) -> Result<Outcome, PlayRefusal>
     requires empty { log_of (node_in player) ≡ [] }
+    requires none { HasNone (outs_in player) (node_in player) }
     ensures goes { IfOk result (λ o. GoesOn (text_sent (file_of (file_in accepted.now)) how.now.run.now
         (words_at (keys_of streams.old)) (party_of (node_in player)))
         (get_or (seen_of streams.old) (party_of (node_in player)) 0) (node_in player) o

@@ -4,6 +4,7 @@ ghost use Rattle.sj_remote_run.specs.Asked.{IsInside};
 ghost use Rattle.sj_remote_run.specs.Turns.{Goes, outcome_by};
 
 use crate::causes::spell_means;
+use crate::posts::push_all;
 use crate::{Outcome, PlayRefusal};
 use sj_end::Entry;
 use sj_engine::{ByteIn, ByteOut, batches};
@@ -45,7 +46,9 @@ impl Player {
             Ok(stop) => stop,
             Err(e) => return Err(spell_means(e)),
         };
-        let (lanes, node, noted) = worker.into_parts();
+        let (mut lanes, mut node, noted) = worker.into_parts();
+        // At the end of its clock a worker stops with frames that no lane has.
+        push_all(alloc, &mut node, &mut lanes)?;
         let outcome = stands(stop, node.finished())?;
         Ok((Player { node, lanes }, outcome, noted))
     }

@@ -1,7 +1,8 @@
 //! What waits at a node, pushed on its lanes.
-ghost use Rattle.std.specs.Prelude.{IfErr};
+ghost use Rattle.std.specs.Prelude.{◌≡◌, [], IfErr, OnOk};
 ghost use Rattle.sj_node.specs.Reading.{TakesOut};
 ghost use Rattle.sj_remote_run.specs.Asked.{IsInside};
+ghost use Rattle.sj_remote_run.specs.Posts.{AreClear, GoesOut, GoesTo, waits_for};
 
 use crate::PlayRefusal;
 use crate::causes::spell_means;
@@ -13,6 +14,8 @@ use std::alloc::Global;
 /// Pushes what waits for a party on its lane.
 fn push_out(node: &mut Node, to: u16, lane: &mut ByteOut) -> Result<(), PlayRefusal>
     ensures node { TakesOut node.old node.new }
+    ensures goes { OnOk result (GoesTo to lane.old node.old lane.new node.new) }
+    ensures none { OnOk result (waits_for node.new to ≡ []) }
     ensures refused { IfErr result IsInside }
 {
     for _ in 0..u64::MAX {
@@ -36,12 +39,14 @@ pub fn push_all(
     lanes: &mut Lanes<ByteOut, ByteIn>,
 ) -> Result<(), PlayRefusal>
     ensures node { TakesOut node.old node.new }
+    ensures out { OnOk result
+        (GoesOut lanes.old.outs.items node.old lanes.new.outs.items node.new) }
     ensures refused { IfErr result IsInside }
 {
+    if lanes.outs.len() != usize::from(node.parties()) {
+        return Err(PlayRefusal::LogFault);
+    }
     for to in 0..node.targets() {
-        if usize::from(to) >= lanes.outs.len() {
-            return Err(PlayRefusal::LogFault);
-        }
         push_out(node, to, &mut lanes.outs[usize::from(to)])?;
     }
     match carry_home(alloc, lanes, node.party()) {
@@ -51,8 +56,10 @@ pub fn push_all(
 }
 
 /// Forgets the frames of all lanes.
-pub fn clear(outs: &mut [ByteOut]) {
-    for lane in outs {
-        lane.clear();
+pub fn clear(outs: &mut [ByteOut])
+    ensures clear { AreClear outs.new }
+{
+    for at in 0..outs.len() {
+        outs[at].clear();
     }
 }

@@ -7,6 +7,7 @@ ghost use Rattle.sj_node.specs.Reading.{party_of};
 ghost use Rattle.sj_remote.specs.Conn.{sink_of};
 ghost use Rattle.sj_remote.specs.Streams.{keys_of, seen_of};
 ghost use Rattle.sj_remote_run.specs.Asked.{IsCause, IsOfStreams, IsUntaken, Talks};
+ghost use Rattle.sj_remote_run.specs.Posts.{HandsOver};
 ghost use Rattle.sj_remote_run.specs.Refused.{IsNotAdded, IsUnanswered};
 ghost use Rattle.sj_remote_run.specs.Turns.{added_count, batch_text, next_seen, node_in, outs_in};
 ghost use Rattle.sj_resp.specs.Spelling.{command_text};
@@ -54,6 +55,7 @@ fn take_all(
         ≡ get_or (seen_of streams.old) (party_of (node_in player.old)) 0) }
     ensures keys { keys_of streams.new ≡ keys_of streams.old }
     ensures node { node_in player.new ≡ node_in player.old }
+    ensures lanes { outs_in player.new ≡ outs_in player.old }
     ensures refused { IfErr result
         (IsUntaken (party_of (node_in player.old)) (map came_view all.now)) }
 {
@@ -90,6 +92,7 @@ pub fn exchange<S: Source, K: Sink>(
         ≡ get_or (seen_of streams.old) (party_of (node_in player.old)) 0 + added_count noted.now) }
     ensures keys { keys_of streams.new ≡ keys_of streams.old }
     ensures node { node_in player.new ≡ node_in player.old }
+    ensures lanes { OnOk result (HandsOver noted.now (outs_in player.old) (outs_in player.new)) }
     ensures talked { OnOk result (Talks S.left S.faults K.faults conn.old conn.new) }
     ensures refused { IfErr result (IsCause S.left S.faults S.has_ended K.faults
         (IsOfStreams (words_at (keys_of streams.old)) (party_of (node_in player.old)))
@@ -125,6 +128,7 @@ pub fn add<S: Source, K: Sink>(
         ≡ get_or (seen_of streams.old) (party_of (node_in player.old)) 0 + added_count noted.now) }
     ensures keys { keys_of streams.new ≡ keys_of streams.old }
     ensures node { node_in player.new ≡ node_in player.old }
+    ensures lanes { OnOk result (HandsOver noted.now (outs_in player.old) (outs_in player.new)) }
     ensures talked { OnOk result (Talks S.left S.faults K.faults conn.old conn.new) }
     ensures refused { IfErr result (IsCause S.left S.faults S.has_ended K.faults
         (IsOfStreams (words_at (keys_of streams.old)) (party_of (node_in player.old)))

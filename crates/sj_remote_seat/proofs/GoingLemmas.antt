@@ -4,6 +4,8 @@ use Rattle.std.proofs.lemmas.List.Concat.{flat_map-append}
 use Rattle.sj_base.proofs.PieceLemmas.{put_behind-nil}
 use Rattle.sj_base.specs.Stream.{put_behind}
 use Rattle.sj_end.specs.declared.note.Entry.{Entry}
+use Rattle.sj_engine.specs.declared.in_lane.ByteIn.{ByteIn}
+use Rattle.sj_engine.specs.declared.out_lane.ByteOut.{ByteOut}
 use Rattle.sj_lang.specs.FileAt.{FileAt}
 use Rattle.sj_lang.specs.Place.{Place}
 use Rattle.sj_node.specs.Node.{log_of}
@@ -24,22 +26,23 @@ use Rattle.sj_streams.specs.Commands.{read_words}
 use Rattle.sj_work.specs.Laned.{entries_of}
 use Rattle.sj_remote_seat.specs.Batches.{AreSent, IsBatch}
 use Rattle.sj_remote_seat.specs.Played.{GoesOn}
-use Rattle.sj_remote_seat.specs.Turns.{Goes, IsSame, Noted, Turns, played_at}
+use Rattle.sj_remote_seat.specs.Turns.{AreHanded, Goes, IsClear, IsSame, Noted, Turns, has_of, played_at}
+use Rattle.sj_remote_seat.proofs.HandedLemmas.{are_handed, left_clear}
 use Rattle.sj_remote_seat.proofs.SentLemmas.{batch_sent, goes_then, sent_both}
 
 -- a log that is taken leaves what the party is
-same_played : {O I G : Type 0} (rest : List Call) (next new : Guest O I G) → Goes next new → played_at (seat_of rest next) (node_of next) ≡ played_at (seat_of rest new) (node_of new)
+same_played : {G : Type 0} (rest : List Call) (next new : Guest ByteOut ByteIn G) → Goes next new → played_at (seat_of rest next) (node_of next) ≡ played_at (seat_of rest new) (node_of new)
 same_played rest next new g = λ i. with_player (seated (sym (g.still.seats rest) i)) (sym g.still.nodes.node i)
 
-module _ (file : FileAt) (run : List ℕ) (keys : List (List ℕ)) {O I G : Type 0} where
+module _ (file : FileAt) (run : List ℕ) (keys : List (List ℕ)) {G : Type 0} where
   -- what was sent since, whatever its code calls later
-  pub record Going (first last : ℕ) (old new : Guest O I G) (before after : Option (List ℕ)) : Type 0 where
+  pub record Going (first last : ℕ) (old new : Guest ByteOut ByteIn G) (before after : Option (List ℕ)) : Type 0 where
     pub calls : List Call → List Call
     pub goes : (rest : List Call) → GoesOn (text_sent file run keys (party_of (node_of old))) file (party_of (node_of old)) first last (played_at (seat_of (calls rest) old) (node_of old)) (played_at (seat_of rest new) (node_of new)) before after
     pub same : IsSame old new
     pub empty : log_of (node_of new) ≡ []
 
-  pub going_none : (first : ℕ) (old : Guest O I G) (before : Option (List ℕ)) → log_of (node_of old) ≡ [] → Going first first old old before before
+  pub going_none : (first : ℕ) (old : Guest ByteOut ByteIn G) (before : Option (List ℕ)) → log_of (node_of old) ≡ [] → Going first first old old before before
   going_none first old before empty = record {
     calls = λ rest. rest;
     goes = λ rest. record { commands = []; written = put_behind-nil before; sent = (refl, refl) };
@@ -47,9 +50,9 @@ module _ (file : FileAt) (run : List ℕ) (keys : List (List ℕ)) {O I G : Type
     empty = empty;
   }
 
-  module _ (first last : ℕ) (old mid next : Guest O I G) (before between after : Option (List ℕ)) (parties : length file.parties ≡ parties_of (node_of old))
-      (w : Going first last old mid before between) (t : Turns mid next) (posts : List (List (FrameAt Place))) where
-    abbrev noted_by : (rest : List Call) → Noted file (seat_of (t.calls rest) mid) (seat_of rest next) (node_of mid) (node_of next)
+  module _ (first last : ℕ) (old mid next : Guest ByteOut ByteIn G) (before between after : Option (List ℕ)) (parties : length file.parties ≡ parties_of (node_of old))
+      (w : Going first last old mid before between) (t : Turns mid next) (posts : List (List (FrameAt Place))) (clear : IsClear mid) (handed : AreHanded next posts) where
+    abbrev noted_by : (rest : List Call) → Noted file (seat_of (t.calls rest) mid) (seat_of rest next) (node_of mid) (node_of next) (has_of mid) (has_of next)
     noted_by rest = t.went file rest (parties ∙ sym w.same.parties)
 
     -- what the party noted, and the frames with it
@@ -58,9 +61,19 @@ module _ (file : FileAt) (run : List ℕ) (keys : List (List ℕ)) {O I G : Type
 
     is_batch : (rest : List Call) → IsBatch file (party_of (node_of old)) (played_at (seat_of (t.calls rest) mid) (node_of mid)) (played_at (seat_of rest next) (node_of next)) (batch_by rest)
     is_batch rest =
-        let n : Noted file (seat_of (t.calls rest) mid) (seat_of rest next) (node_of mid) (node_of next) = noted_by rest in
+        let n : Noted file (seat_of (t.calls rest) mid) (seat_of rest next) (node_of mid) (node_of next) (has_of mid) (has_of next) = noted_by rest in
         subst (λ (p : ℕ). IsBatch file p (played_at (seat_of (t.calls rest) mid) (node_of mid)) (played_at (seat_of rest next) (node_of next)) (batch_by rest)) w.same.party
-        (record { run = n.ran.run; notes = n.log ∙ ap (λ (l : List Entry). entries_of l ++ n.entries) w.empty ∙ n.ran.noted })
+        (record {
+          run = n.ran.run;
+          notes = n.log ∙ ap (λ (l : List Entry). entries_of l ++ n.entries) w.empty ∙ n.ran.noted;
+          frames = are_handed mid next file n.ran.steps posts (parties ∙ sym w.same.parties) t.same clear n.ran.posts handed;
+        })
+
+    -- once it is handed over nothing is left
+    pub turn_clear : (new : Guest ByteOut ByteIn G) → Goes next new → IsClear new
+    turn_clear new g =
+        let n : Noted file (seat_of (t.calls []) mid) (seat_of [] next) (node_of mid) (node_of next) (has_of mid) (has_of next) = noted_by [] in
+        left_clear (log_of (node_of next)) mid next new n.ran.steps (n.log ∙ ap (λ (l : List Entry). entries_of l ++ n.entries) w.empty ∙ n.ran.noted) clear t.same n.ran.posts g.still g.left
 
     batch_goes : (rest : List Call) → AreSent file (party_of (node_of old)) last (played_at (seat_of (t.calls rest) mid) (node_of mid))
         (adds_by (last + 1) (log_of (node_of next)) (batch_by rest)) (last + added_count (log_of (node_of next))) (played_at (seat_of rest next) (node_of next))
@@ -101,7 +114,7 @@ module _ (file : FileAt) (run : List ℕ) (keys : List (List ℕ)) {O I G : Type
           ∙ sym (flat_map-append (λ c. command_text (words_sent file run keys party c)) cs (read ∷ []))))
 
       -- and goes on after it with a log that is empty
-      pub turn_goes : (wait end : ℕ) (new : Guest O I G) → Goes next new → end ≡ last + added_count (log_of (node_of next))
+      pub turn_goes : (wait end : ℕ) (new : Guest ByteOut ByteIn G) → Goes next new → end ≡ last + added_count (log_of (node_of next))
           → after ≡ put_behind between (batch_text keys seen file (party_of (node_of old)) (log_of (node_of next)) posts
           ++ command_text (read_words 512 (Some wait) keys (next_seen (party_of (node_of old)) (log_of (node_of next)) seen))) → Going first end old new before after
       turn_goes wait end new g at wrote = record {

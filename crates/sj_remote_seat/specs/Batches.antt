@@ -1,18 +1,21 @@
 -- Batches of a party that code plays, and the commands that it sends.
-use Rattle.std.specs.Prelude.{◌≡◌, ℕ, ◌+◌, max, List, [], ◌∷◌, map}
+use Rattle.std.specs.Prelude.{◌≡◌, ℕ, ◌+◌, max, List, [], ◌∷◌, length, map}
 use Rattle.sj_lang.specs.FileAt.{FileAt}
 use Rattle.sj_lang.specs.Place.{Place}
 use Rattle.sj_remote_run.specs.Batches.{BatchAt}
+use Rattle.sj_remote_run.specs.Posts.{AreFrames}
 use Rattle.sj_remote_run.specs.Sent.{Adds, Asks, CommandAt}
 use Rattle.sj_rules.specs.Node.{NodeAt}
 use Rattle.sj_rules.specs.NodeRun.{NodeRun}
 use Rattle.sj_seat_laws.specs.SeatedPlay.{Player, seated_play}
 use Rattle.sj_work.specs.Laned.{entries_of}
 
--- steps of the play in which code plays the party lead from the one node to the other, and what was noted is their entries
+-- steps of the play in which code plays the party lead from the one node to the other, what was noted is their entries, and the frames
+-- for others are what they post
 pub record IsBatch (file : FileAt) (party : ℕ) (old new : NodeAt Place Player) (b : BatchAt) : Type 0 where
   pub run : NodeRun (seated_play file) max party old b.steps new
   pub notes : entries_of b.noted ≡ map (λ s. s.entry) b.steps
+  pub frames : AreFrames (length file.parties) party b.steps b.posts
 
 -- one batch after another
 abbrev pub AreBatches : FileAt → (party : ℕ) → NodeAt Place Player → List BatchAt → NodeAt Place Player → Type 0

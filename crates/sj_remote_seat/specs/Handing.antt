@@ -1,6 +1,5 @@
 -- What a party that code plays hands in.
-use Rattle.std.specs.Prelude.{ℕ, List, map}
-use Rattle.sj_engine.specs.Lanes.{pushed_on}
+use Rattle.std.specs.Prelude.{ℕ, List}
 use Rattle.sj_engine.specs.declared.in_lane.ByteIn.{ByteIn}
 use Rattle.sj_engine.specs.declared.out_lane.ByteOut.{ByteOut}
 use Rattle.sj_lang.specs.FileAt.{FileAt}
@@ -9,18 +8,13 @@ use Rattle.sj_node.specs.Node.{log_of}
 use Rattle.sj_node.specs.Reading.{party_of}
 use Rattle.sj_remote_run.specs.Turns.{batch_text, next_seen}
 use Rattle.sj_rules.specs.Frames.{FrameAt}
-use Rattle.sj_seat.specs.Views.{node_of, worker_of}
+use Rattle.sj_seat.specs.Views.{node_of}
 use Rattle.sj_seat.specs.declared.guest.Guest.{Guest}
-use Rattle.sj_work.specs.Views.{lanes_of}
 
 module _ {G : Type 0} where
-  -- the frames that were pushed for each party
-  abbrev pub posts_of : Guest ByteOut ByteIn G → List (List (FrameAt Place))
-  posts_of g = map pushed_on (lanes_of (worker_of g)).outs.items
-
-  -- the command that adds what was noted, where something was
-  abbrev pub handed_text : (keys : List (List ℕ)) → (seen : List ℕ) → FileAt → Guest ByteOut ByteIn G → List ℕ
-  handed_text keys seen file g = batch_text keys seen file (party_of (node_of g)) (log_of (node_of g)) (posts_of g)
+  -- the command that adds what was noted, where something was, with these frames
+  abbrev pub handed_text : (keys : List (List ℕ)) → (seen : List ℕ) → FileAt → Guest ByteOut ByteIn G → (frames : List (List (FrameAt Place))) → List ℕ
+  handed_text keys seen file g frames = batch_text keys seen file (party_of (node_of g)) (log_of (node_of g)) frames
 
   -- the numbers that are seen then
   abbrev pub seen_then : (seen : List ℕ) → Guest ByteOut ByteIn G → List ℕ

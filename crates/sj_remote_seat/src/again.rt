@@ -6,7 +6,7 @@ ghost use Rattle.sj_lang.specs.FileView.{file_of};
 ghost use Rattle.sj_node.specs.Node.{log_of};
 ghost use Rattle.sj_remote_run.specs.Entries.{entry_words};
 ghost use Rattle.sj_remote_seat.specs.Caught.{DidAgain};
-ghost use Rattle.sj_remote_seat.specs.Turns.{Sat};
+ghost use Rattle.sj_remote_seat.specs.Turns.{IsClear, Sat};
 ghost use Rattle.sj_seat.specs.Views.{node_of};
 ghost use Rattle.sj_streams.specs.Words.{words_at};
 ghost use Rattle.sj_work.specs.Laned.{entries_of};
@@ -19,7 +19,7 @@ use sj_check::Accepted;
 use sj_end::Entry;
 use sj_engine::ByteOut;
 use sj_lang::File;
-use sj_remote_run::{PlayRefusal, batch_words, clear, lines_in, same_words};
+use sj_remote_run::{PlayRefusal, batch_words, clear, lines_in, push_all, same_words};
 use sj_seat_run::Play;
 use sj_streams::lines_of;
 use sj_work::Worker;
@@ -83,9 +83,11 @@ pub(crate) fn do_again<'a, C: Play>(
     code: &mut C,
     words: &[Vec<u8>],
 ) -> Result<Seat<'a>, SeatPlayRefusal>
-    requires { log_of (node_of seat) ≡ [] }
+    requires empty { log_of (node_of seat) ≡ [] }
+    requires clear { IsClear seat }
     ensures again { IfOk result (λ new.
         DidAgain (file_of (file_in accepted.now)) (words_at words.now) seat.entry new) }
+    ensures clear { IfOk result (λ new. IsClear new) }
     ensures none { IfOk result (λ new. log_of (node_of new) ≡ []) }
 {
     let Some(text) = lines_of(words) else {
@@ -93,7 +95,8 @@ pub(crate) fn do_again<'a, C: Play>(
     };
     let (seat, made) = redo_lines(alloc, accepted, seat, asking, code, text)?;
     let (worker, holdings) = seat.into_parts();
-    let (mut lanes, node, _) = worker.into_parts();
+    let (mut lanes, mut node, _) = worker.into_parts();
+    push_all(alloc, &mut node, &mut lanes)?;
     let party = node.party();
     if !is_entry(alloc, accepted.file(), party, &made, &lanes.outs, words)? {
         return Err(SeatPlayRefusal::Party(PlayRefusal::LogFault));

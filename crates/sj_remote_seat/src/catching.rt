@@ -5,6 +5,7 @@ ghost use Rattle.sj_lang.specs.FileView.{file_of};
 ghost use Rattle.sj_node.specs.Node.{log_of};
 ghost use Rattle.sj_remote_run.specs.Caught.{entries_in};
 ghost use Rattle.sj_remote_seat.specs.Caught.{DidAll};
+ghost use Rattle.sj_remote_seat.specs.Turns.{IsClear};
 ghost use Rattle.sj_seat.specs.Views.{node_of};
 ghost use Rattle.sj_streams.specs.Words.{words_at};
 
@@ -26,9 +27,11 @@ fn redo_came<'a, C: Play>(
     asking: &mut Asking,
     code: &mut C,
 ) -> Result<Seat<'a>, SeatPlayRefusal>
-    requires { log_of (node_of seat) ≡ [] }
+    requires empty { log_of (node_of seat) ≡ [] }
+    requires clear { IsClear seat }
     ensures again { IfOk result (λ new. DidAll (file_of (file_in accepted.now))
         (map (λ e. words_at e.items) entries.now) seat.entry new) }
+    ensures clear { IfOk result (λ new. IsClear new) }
     ensures none { IfOk result (λ new. log_of (node_of new) ≡ []) }
 {
     let mut going = seat;
@@ -48,9 +51,11 @@ pub(crate) fn catch_up<'a, C: Play>(
     asking: &mut Asking,
     code: &mut C,
 ) -> Result<Seat<'a>, SeatPlayRefusal>
-    requires { log_of (node_of seat) ≡ [] }
+    requires empty { log_of (node_of seat) ≡ [] }
+    requires clear { IsClear seat }
     ensures again { IfOk result (λ new. DidAll (file_of (file_in accepted.now))
         (entries_in own.now) seat.entry new) }
+    ensures clear { IfOk result (λ new. IsClear new) }
     ensures none { IfOk result (λ new. log_of (node_of new) ≡ []) }
 {
     let mut going = seat;

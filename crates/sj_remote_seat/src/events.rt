@@ -48,7 +48,9 @@ fn deliver(node: &mut Node, from: u16, frame: Frame, entry: &Entry) -> Result<()
 }
 
 /// Lanes to nobody and from nobody.
-fn no_lanes(alloc: Global) -> Lanes<ByteOut, ByteIn> {
+fn no_lanes(alloc: Global) -> Lanes<ByteOut, ByteIn>
+    ensures { result.outs.items ≡ [] }
+{
     Lanes {
         outs: Vec::new(alloc),
         ins: Vec::new(alloc),

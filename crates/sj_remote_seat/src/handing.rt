@@ -1,15 +1,17 @@
 //! What a party noted, handed in, and what comes then.
-ghost use Rattle.std.specs.Prelude.{◌≡◌, ◌+◌, ◌++◌, IfOk, IfSome, OnOk, Some, get_or};
+ghost use Rattle.std.specs.Prelude.{◌≡◌, ◌+◌, ◌++◌, List, IfOk, IfSome, OnOk, Some, get_or};
 ghost use Rattle.sj_base.specs.Stream.{put_behind};
 ghost use Rattle.sj_lang.specs.FileView.{file_of};
+ghost use Rattle.sj_lang.specs.Place.{Place};
 ghost use Rattle.sj_node.specs.Node.{log_of};
 ghost use Rattle.sj_node.specs.Reading.{party_of};
 ghost use Rattle.sj_remote.specs.Conn.{sink_of};
 ghost use Rattle.sj_remote.specs.Streams.{keys_of, seen_of};
 ghost use Rattle.sj_remote_run.specs.Turns.{added_count};
 ghost use Rattle.sj_remote_seat.specs.Handing.{handed_text, seen_then};
-ghost use Rattle.sj_remote_seat.specs.Turns.{Goes};
+ghost use Rattle.sj_remote_seat.specs.Turns.{AreHanded, Goes};
 ghost use Rattle.sj_resp.specs.Spelling.{command_text};
+ghost use Rattle.sj_rules.specs.Frames.{FrameAt};
 ghost use Rattle.sj_seat.specs.Views.{node_of};
 ghost use Rattle.sj_streams.specs.Commands.{read_words};
 ghost use Rattle.sj_streams.specs.Words.{words_at};
@@ -18,7 +20,7 @@ use crate::seat::Seat;
 use sj_base::{Sink, Source};
 use sj_lang::File;
 use sj_remote::{Conn, Streams};
-use sj_remote_run::{PlayRefusal, Player, add, exchange};
+use sj_remote_run::{PlayRefusal, Player, add, exchange, push_all};
 use sj_work::Worker;
 use std::alloc::Global;
 
@@ -32,11 +34,12 @@ pub(crate) fn hand_in<'a, S: Source, K: Sink>(
     streams: &mut Streams,
     wait: u64,
 ) -> Result<Option<Seat<'a>>, PlayRefusal>
-    ensures sent { OnOk result (K.written (sink_of conn.new)
-        ≡ put_behind (K.written (sink_of conn.old))
-        (handed_text (words_at (keys_of streams.old)) (seen_of streams.old) (file_of file.now) seat.entry
+    ensures sent { OnOk result ((frames : List (List (FrameAt Place)))
+        × AreHanded seat.entry frames × (K.written (sink_of conn.new)
+        ≡ put_behind (K.written (sink_of conn.old)) (handed_text (words_at (keys_of streams.old))
+        (seen_of streams.old) (file_of file.now) seat.entry frames
         ++ command_text (read_words 512 (Some wait) (words_at (keys_of streams.old))
-        (seen_then (seen_of streams.old) seat.entry)))) }
+        (seen_then (seen_of streams.old) seat.entry))))) }
     ensures number { OnOk result (get_or (seen_of streams.new) (party_of (node_of seat.entry)) 0
         ≡ get_or (seen_of streams.old) (party_of (node_of seat.entry)) 0
         + added_count (log_of (node_of seat.entry))) }
@@ -44,7 +47,8 @@ pub(crate) fn hand_in<'a, S: Source, K: Sink>(
     ensures goes { IfOk result (λ o. IfSome o (Goes seat.entry)) }
 {
     let (worker, holdings) = seat.into_parts();
-    let (lanes, node, noted) = worker.into_parts();
+    let (mut lanes, mut node, noted) = worker.into_parts();
+    push_all(alloc, &mut node, &mut lanes)?;
     let mut player = Player { node, lanes };
     if !exchange(alloc, conn, file, &mut player, streams, &noted, wait)? {
         return Ok(None);
@@ -61,12 +65,14 @@ pub(crate) fn hand_in_last<S: Source, K: Sink>(
     seat: Seat<'_>,
     streams: &mut Streams,
 ) -> Result<(), PlayRefusal>
-    ensures { OnOk result (K.written (sink_of conn.new) ≡ put_behind (K.written (sink_of conn.old))
-        (handed_text (words_at (keys_of streams.old)) (seen_of streams.old) (file_of file.now)
-        seat.entry)) }
+    ensures { OnOk result ((frames : List (List (FrameAt Place)))
+        × AreHanded seat.entry frames × (K.written (sink_of conn.new)
+        ≡ put_behind (K.written (sink_of conn.old)) (handed_text (words_at (keys_of streams.old))
+        (seen_of streams.old) (file_of file.now) seat.entry frames))) }
 {
     let (worker, _) = seat.into_parts();
-    let (lanes, node, noted) = worker.into_parts();
+    let (mut lanes, mut node, noted) = worker.into_parts();
+    push_all(alloc, &mut node, &mut lanes)?;
     let mut player = Player { node, lanes };
     add(alloc, conn, file, &mut player, streams, &noted)
 }

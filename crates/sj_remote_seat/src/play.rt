@@ -8,6 +8,7 @@ ghost use Rattle.sj_remote.specs.Conn.{sink_of};
 ghost use Rattle.sj_remote.specs.Streams.{keys_of, seen_of};
 ghost use Rattle.sj_remote_run.specs.Sent.{text_sent};
 ghost use Rattle.sj_remote_seat.specs.Played.{HasGone, IsPlayed, IsRefused};
+ghost use Rattle.sj_remote_seat.specs.Turns.{IsClear};
 ghost use Rattle.sj_seat.specs.Views.{node_of};
 ghost use Rattle.sj_streams.specs.Words.{words_at};
 
@@ -38,6 +39,7 @@ fn go_on<S: Source, K: Sink, C: sj_seat_run::Play>(
     code: &mut C,
 ) -> Result<Outcome, PlayRefusal>
     requires empty { log_of (node_of seat) ≡ [] }
+    requires clear { IsClear seat }
     requires parties { length (file_of file.now).parties ≡ parties_of (node_of seat) }
     ensures { IfOk result (λ o. HasGone (text_sent (file_of file.now) how.now.run.now
         (words_at (keys_of streams.old)) (party_of (node_of seat.entry))) (file_of file.now)

@@ -3,7 +3,7 @@ ghost use Rattle.std.specs.Prelude.{◌≡◌, ◌<◌, IfOk, length};
 ghost use Rattle.sj_check.specs.Held.{file_in};
 ghost use Rattle.sj_lang.specs.FileAt.{body_named};
 ghost use Rattle.sj_lang.specs.FileView.{file_of};
-ghost use Rattle.sj_remote_seat.specs.Turns.{Begins};
+ghost use Rattle.sj_remote_seat.specs.Turns.{Begins, outs_of};
 ghost use Rattle.sj_seat.specs.Places.{CarriesPlaces};
 ghost use Rattle.sj_table.specs.Spots.{start_in};
 
@@ -41,7 +41,8 @@ pub(crate) fn take_seat<'a>(
     gate: &'a NoGate,
 ) -> Result<Seat<'a>, SeatPlayRefusal>
     requires { party < length (file_of (file_in accepted.now)).parties }
-    ensures { IfOk result (Begins (file_of (file_in accepted.now)) party) }
+    ensures begins { IfOk result (Begins (file_of (file_in accepted.now)) party) }
+    ensures lanes { IfOk result (λ seat. outs_of seat ≡ lanes.outs.items) }
 {
     let table = table_for(alloc, accepted)?;
     let texts = text_count(accepted.file());

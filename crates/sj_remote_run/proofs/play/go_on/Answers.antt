@@ -1,16 +1,19 @@
-use Rattle.std.proofs.Common.{◌≡◌, ◌+◌, Some, get_or, map, refl, ap, ◌∙◌}
+use Rattle.std.proofs.Common.{◌≡◌, ◌+◌, List, Some, get_or, map, refl, ap, subst, sym, ◌∙◌}
 use Rattle.sj_base.specs.Stream.{put_behind}
 use Rattle.sj_check.specs.Held.{file_in}
+use Rattle.sj_end.specs.declared.note.Entry.{Entry}
 use Rattle.sj_engine.specs.Lanes.{pushed_on}
 use Rattle.sj_lang.specs.FileView.{file_of}
 use Rattle.sj_node.specs.Reading.{party_of}
+use Rattle.sj_node.specs.declared.node.Node.{Node}
 use Rattle.sj_remote.specs.Conn.{sink_of}
 use Rattle.sj_remote.specs.Streams.{keys_of, seen_of}
 use Rattle.sj_streams.specs.Words.{words_at}
 use Rattle.sj_remote_run.specs.Asked.{IsCause, IsOfStreams}
+use Rattle.sj_remote_run.specs.Posts.{HandsOver, HasNone}
 use Rattle.sj_remote_run.specs.Sent.{text_sent}
 use Rattle.sj_remote_run.specs.Turns.{added_count, node_in, outs_in}
-use Rattle.sj_remote_run.proofs.GoesLemmas.{goes_ended, goes_party}
+use Rattle.sj_remote_run.proofs.GoesLemmas.{goes_ended, goes_none, goes_party}
 use Rattle.sj_remote_run.proofs.CauseLemmas.{cause_later, err_as, inside_cause, streams_then}
 use Rattle.sj_remote_run.proofs.TalkedLemmas.{talks_both, talks_none}
 use Rattle.sj_remote_run.proofs.TurnLemmas.{going_none, going_same, same_batch, same_number, same_turn, turn_adds, turn_asks}
@@ -23,6 +26,7 @@ loop-init g c =
     record {
       going = going_none (text_sent file c.args.how.now.run.now (words_at (keys_of c.args.streams.now)) (party_of old)) (get_or (seen_of c.args.streams.now) (party_of old) 0) old
           (g.K.Sink.written (sink_of c.args.conn.now)) refl c.requires.empty;
+      none = c.requires.none;
       keys = refl;
       talked = talks_none g.S.Source.left g.S.Source.faults g.K.Sink.faults c.args.conn.now;
     }
@@ -42,7 +46,7 @@ returns-then-eq-clause-goes g c =
     let same = same_batch (words_at (keys_of c.loop.streams)) keys seen (file_of c.file-file.result.now) file (party_of (node_in next)) (party_of old) c.deref.result.now noted (map pushed_on (outs_in next))
     (ap words_at c.loop.invariant.keys) (ap file_of c.file-file.ensures.value) party c.deref.ensures.value in
     let t = turn_adds file c.args.how.now.run.now keys old (get_or (seen_of c.args.streams.now) (party_of old) 0) (written (sink_of c.args.conn.now)) c.loop.player next c.in_ok-next.outcome noted goes seen
-    (written (sink_of c.loop.conn)) (written (sink_of c.add.new.conn)) going (c.in_ok-add.ensures.sent ∙ ap (put_behind (written (sink_of c.loop.conn))) same) in
+    (written (sink_of c.loop.conn)) (written (sink_of c.add.new.conn)) going c.loop.invariant.none (c.in_ok-add.ensures.sent ∙ ap (put_behind (written (sink_of c.loop.conn))) same) in
     record {
       commands = t.commands;
       written = t.written;
@@ -68,7 +72,7 @@ returns-then-not-branch-clause-goes g c =
     let same = same_turn (words_at (keys_of c.loop.streams)) keys seen (file_of c.file-file.result.now) file (party_of (node_in next)) (party_of old) c.deref-in-loop.result.now noted (map pushed_on (outs_in next)) (Some c.max-wait.result)
     here (ap file_of c.file-file.ensures.value) party c.deref-in-loop.ensures.value in
     let t = turn_asks file c.args.how.now.run.now keys old (get_or (seen_of c.args.streams.now) (party_of old) 0) (written (sink_of c.args.conn.now)) c.loop.player next c.in_ok-next.outcome noted goes seen
-    (written (sink_of c.loop.conn)) (written (sink_of c.exchange.new.conn)) going c.max-wait.result (c.in_ok-exchange.ensures.sent ∙ ap (put_behind (written (sink_of c.loop.conn))) same) in
+    (written (sink_of c.loop.conn)) (written (sink_of c.exchange.new.conn)) going c.loop.invariant.none c.max-wait.result (c.in_ok-exchange.ensures.sent ∙ ap (put_behind (written (sink_of c.loop.conn))) same) in
     record {
       commands = t.commands;
       written = t.written;
@@ -94,12 +98,15 @@ loop-preserved g c =
     let same = same_turn (words_at (keys_of c.loop.streams)) keys seen (file_of c.file-file.result.now) file (party_of (node_in next)) (party_of old) c.deref-in-loop.result.now noted (map pushed_on (outs_in next)) (Some c.max-wait.result)
     here (ap file_of c.file-file.ensures.value) party c.deref-in-loop.ensures.value in
     let t = turn_asks file c.args.how.now.run.now keys old (get_or (seen_of c.args.streams.now) (party_of old) 0) (written (sink_of c.args.conn.now)) c.loop.player next c.in_ok-next.outcome noted goes seen
-    (written (sink_of c.loop.conn)) (written (sink_of c.exchange.new.conn)) going c.max-wait.result (c.in_ok-exchange.ensures.sent ∙ ap (put_behind (written (sink_of c.loop.conn))) same) in
+    (written (sink_of c.loop.conn)) (written (sink_of c.exchange.new.conn)) going c.loop.invariant.none c.max-wait.result (c.in_ok-exchange.ensures.sent ∙ ap (put_behind (written (sink_of c.loop.conn))) same) in
     record {
       going = going_same (text_sent file c.args.how.now.run.now keys (party_of old)) (get_or (seen_of c.args.streams.now) (party_of old) 0) (get_or seen (party_of old) 0 + added_count noted)
           (get_or (seen_of c.exchange.new.streams) (party_of old) 0) old (node_in next) (node_in c.exchange.new.player) (written (sink_of c.args.conn.now)) (written (sink_of c.exchange.new.conn))
           (same_number (seen_of c.exchange.new.streams) seen (party_of (node_in next)) (party_of old) c.deref-in-loop.result.now noted party c.deref-in-loop.ensures.value c.in_ok-exchange.ensures.number)
           c.in_ok-exchange.ensures.node t;
+      none = subst (λ (n : Node). HasNone (outs_in c.exchange.new.player) n) (sym c.in_ok-exchange.ensures.node)
+          (goes_none c.loop.player next c.in_ok-next.outcome noted goes going.empty c.loop.invariant.none (outs_in c.exchange.new.player)
+          (subst (λ (es : List Entry). HandsOver es (outs_in next) (outs_in c.exchange.new.player)) c.deref-in-loop.ensures.value c.in_ok-exchange.ensures.lanes));
       keys = c.in_ok-exchange.ensures.keys ∙ c.loop.invariant.keys;
       talked = talks_both g.S.Source.left g.S.Source.faults g.K.Sink.faults c.args.conn.now c.loop.conn c.exchange.new.conn c.loop.invariant.talked c.in_ok-exchange.ensures.talked;
     }

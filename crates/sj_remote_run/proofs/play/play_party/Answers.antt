@@ -24,7 +24,7 @@ pub go_on-requires : goal.go_on-requires
 go_on-requires g c =
     let file = file_of (file_in c.args.accepted.now) in
     let party = c.args.how.now.party in
-    record { empty = (is_again file party (get_or (seen_of c.catch_up.new.streams) party 0) c.in_ok-node.node (c.in_ok-node.ensures.again (c.in_ok-streams.ensures.seen party))).3 }
+    record { empty = (is_again file party (get_or (seen_of c.catch_up.new.streams) party 0) c.in_ok-node.node (c.in_ok-node.ensures.again (c.in_ok-streams.ensures.seen party))).3; none = c.in_ok-node.ensures.none }
 
 pub returns-clause-played : goal.returns-clause-played
 returns-clause-played g c =

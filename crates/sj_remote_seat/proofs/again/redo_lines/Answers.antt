@@ -1,7 +1,7 @@
-use Rattle.std.proofs.Common.{List, ap, sym, subst}
+use Rattle.std.proofs.Common.{List, ap, refl, sym, subst}
 use Rattle.sj_rules.specs.Log.{EntryAt}
 use Rattle.sj_work.specs.Laned.{entries_of}
-use Rattle.sj_remote_seat.specs.Turns.{Sat}
+use Rattle.sj_remote_seat.specs.Turns.{Sat, has_of}
 use Rattle.sj_remote_seat.proofs.CaughtLemmas.{sat_more}
 use Rattle.sj_remote_seat.proofs.SatLemmas.{sat_still, still_itself}
 use Rattle.sj_remote_seat.proofs.again.redo_lines.Goals as goal
@@ -9,7 +9,7 @@ use Rattle.sj_remote_seat.proofs.again.redo_lines.Goals as goal
 pub loop-line-init : goal.loop-line-init
 loop-line-init g c =
     let a = c.args.seat in
-    record { sat = subst (λ (l : List EntryAt). Sat a a l) (ap entries_of (sym c.new-made.ensures.items)) (sat_still a a (still_itself a)); none = c.requires }
+    record { sat = subst (λ (l : List EntryAt). Sat a a l) (ap entries_of (sym c.new-made.ensures.items)) (sat_still a a (has_of a) (has_of a) (still_itself a) (λ q other. refl)); none = c.requires }
 
 pub loop-line-preserved : goal.loop-line-preserved
 loop-line-preserved g c = record {

@@ -8,5 +8,6 @@ loop-came-preserved g c = record {
   again =
       did_came (file_of (file_in c.args.accepted.now)) c.args.own.now c.loop-came.came-index c.came-item.result c.deref.result.now c.args.seat c.loop-came.going c.in_ok-next.next
       c.loop-came-test.true c.came-item.is c.deref.ensures.value c.loop-came.invariant.again c.in_ok-next.ensures.again;
+  clear = c.in_ok-next.ensures.clear;
   none = c.in_ok-next.ensures.none;
 }

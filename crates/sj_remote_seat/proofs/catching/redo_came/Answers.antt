@@ -10,5 +10,6 @@ loop-words-preserved g c = record {
   again =
       did_next (file_of (file_in c.args.accepted.now)) c.args.entries.now c.loop-words.words-index c.words-item.result (words_at c.deref.result.now) c.args.seat c.loop-words.going c.in_ok-next.next
       c.loop-words-test.true c.words-item.is (ap words_at c.deref.ensures.value) c.loop-words.invariant.again c.in_ok-next.ensures.again;
+  clear = c.in_ok-next.ensures.clear;
   none = c.in_ok-next.ensures.none;
 }

@@ -10,8 +10,7 @@ use Rattle.sj_remote.specs.Streams.{keys_of, seen_of}
 use Rattle.sj_seat.specs.Views.{node_of}
 use Rattle.sj_streams.specs.Words.{words_at}
 use Rattle.sj_work.specs.Views as works
-use Rattle.sj_remote_seat.specs.Handing.{posts_of}
-use Rattle.sj_remote_seat.proofs.HandedLemmas.{batch_same}
+use Rattle.sj_remote_seat.proofs.HandedLemmas.{batch_same, handed_out}
 use Rattle.sj_remote_seat.proofs.handing.hand_in_last.Goals as goal
 
 pub returns : goal.returns
@@ -20,10 +19,15 @@ returns g c =
     let from = ap works.node_of c.into_parts-worker.ensures.worker in
     let keys = words_at (keys_of c.args.streams.now) in
     let file = file_of c.args.file.now in
-    let party : nodes.party_of m ≡ nodes.party_of (node_of c.args.seat) = c.into_parts-lanes.ensures.node.party ∙ ap nodes.party_of from in
+    let sent = map pushed_on c.push_all.new.lanes.outs.items in
+    let party : nodes.party_of c.push_all.new.node ≡ nodes.party_of (node_of c.args.seat) = c.push_all.ensures.node.party ∙ c.into_parts-lanes.ensures.node.party ∙ ap nodes.party_of from in
     let noted : c.deref.result.now ≡ log_of (node_of c.args.seat) = c.deref.ensures.value ∙ c.into_parts-lanes.ensures.log ∙ ap log_of from in
-    let posts : map pushed_on c.into_parts-lanes.result.0.outs.items ≡ posts_of c.args.seat =
-    ap (λ l. map pushed_on l.outs.items) (c.into_parts-lanes.ensures.lanes ∙ ap works.lanes_of c.into_parts-worker.ensures.worker) in
-    on_ok_weaker c.add.result (λ sent. sent ∙ ap (put_behind (g.K.Sink.written (sink_of c.args.conn.now)))
-    (batch_same keys keys (seen_of c.args.streams.now) file file (nodes.party_of m) (nodes.party_of (node_of c.args.seat)) c.deref.result.now (log_of (node_of c.args.seat))
-    (map pushed_on c.into_parts-lanes.result.0.outs.items) (posts_of c.args.seat) refl refl party noted posts)) c.add.ensures.sent
+    let frames = handed_out c.args.seat c.into_parts-lanes.result.0 c.into_parts-worker.result.0 m c.push_all.new.node c.push_all.new.lanes.outs.items c.into_parts-worker.ensures.worker c.into_parts-lanes.ensures.lanes
+    c.into_parts-lanes.ensures.node c.push_all.ensures.node c.in_ok-push_all.ensures.out in
+    on_ok_weaker c.add.result (λ is. (
+      sent,
+      frames,
+      is ∙ ap (put_behind (g.K.Sink.written (sink_of c.args.conn.now)))
+          (batch_same keys keys (seen_of c.args.streams.now) file file (nodes.party_of c.push_all.new.node) (nodes.party_of (node_of c.args.seat)) c.deref.result.now (log_of (node_of c.args.seat))
+          sent sent refl refl party noted refl),
+    )) c.add.ensures.sent

@@ -1,6 +1,7 @@
 use Rattle.std.proofs.Common.{◌∙◌, ap}
 use Rattle.sj_node.specs.Node.{log_of}
 use Rattle.sj_work.specs.Views.{node_of}
+use Rattle.sj_remote_seat.proofs.HandedLemmas.{home_has}
 use Rattle.sj_remote_seat.proofs.SatLemmas.{put_together, resembles_same, turns_none}
 use Rattle.sj_remote_seat.proofs.home.go_home.Goals as goal
 
@@ -15,3 +16,4 @@ returns-in-Ok c =
     turns_none a b
     (put_together c.into_parts-worker.result.1 a b m n c.into_parts-worker.ensures.holds c.with_worker.ensures.holds from to (resembles_same m n c.carry.ensures.node))
     (ap log_of (to ∙ c.carry.ensures.node ∙ from))
+    (home_has a b c.into_parts-worker.result.0 c.carry.new.worker c.into_parts-worker.ensures.worker c.with_worker.ensures.worker c.carry.ensures)

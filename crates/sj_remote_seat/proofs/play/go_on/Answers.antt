@@ -12,9 +12,8 @@ use Rattle.sj_seat.specs.Views.{node_of}
 use Rattle.sj_seat.specs.declared.guest.Guest.{Guest}
 use Rattle.sj_streams.specs.Words.{words_at}
 use Rattle.sj_work.specs.declared.worker.NoGate.{NoGate}
-use Rattle.sj_remote_seat.specs.Handing.{posts_of}
 use Rattle.sj_remote_seat.specs.Turns.{Goes}
-use Rattle.sj_remote_seat.proofs.GoingLemmas.{going_none, turn_adds, turn_asks, turn_goes}
+use Rattle.sj_remote_seat.proofs.GoingLemmas.{going_none, turn_adds, turn_asks, turn_clear, turn_goes}
 use Rattle.sj_remote_seat.proofs.HandedLemmas.{batch_same, number_same, turn_same}
 use Rattle.sj_remote_seat.proofs.play.go_on.Goals as goal
 
@@ -22,6 +21,7 @@ pub loop-init : goal.loop-init
 loop-init g c = record {
   going = going_none (file_of c.args.file.now) c.args.how.now.run.now (words_at (keys_of c.args.streams.now)) (get_or (seen_of c.args.streams.now) (party_of (node_of c.args.seat)) 0)
       c.args.seat (g.K.Sink.written (sink_of c.args.conn.now)) c.requires.empty;
+  clear = c.requires.clear;
   keys = refl;
 }
 
@@ -38,14 +38,15 @@ returns-then-eq g c =
     let t = c.in_ok-next.ensures.turns in
     let party : party_of (node_of next) ≡ party_of (node_of old) = t.same.party ∙ w.same.party in
     let last = get_or seen (party_of (node_of old)) 0 in
-    let same = batch_same (words_at (keys_of c.loop.streams)) keys seen file file (party_of (node_of next)) (party_of (node_of old)) (log_of (node_of next)) (log_of (node_of next)) (posts_of next) (posts_of next)
+    let frames = c.in_ok-hand_in_last.ensures in
+    let same = batch_same (words_at (keys_of c.loop.streams)) keys seen file file (party_of (node_of next)) (party_of (node_of old)) (log_of (node_of next)) (log_of (node_of next)) frames.0 frames.0
     (ap words_at c.loop.invariant.keys) refl party refl refl in
     record {
       calls = w.calls (t.calls []);
       new = next;
       end = last + added_count (log_of (node_of next));
       goes_on = turn_adds file c.args.how.now.run.now keys (get_or (seen_of c.args.streams.now) (party_of (node_of old)) 0) last old mid next (written (sink_of c.args.conn.now)) (written (sink_of c.loop.conn))
-          (written (sink_of c.hand_in_last.new.conn)) c.requires.parties w t (posts_of next) seen refl (c.in_ok-hand_in_last.ensures ∙ ap (put_behind (written (sink_of c.loop.conn))) same) [];
+          (written (sink_of c.hand_in_last.new.conn)) c.requires.parties w t frames.0 c.loop.invariant.clear frames.1 seen refl (frames.2 ∙ ap (put_behind (written (sink_of c.loop.conn))) same) [];
       stands = c.in_ok-next.ensures.stands;
     }
 
@@ -62,15 +63,16 @@ returns-in-None g c =
     let t = c.in_ok-next.ensures.turns in
     let party : party_of (node_of next) ≡ party_of (node_of old) = t.same.party ∙ w.same.party in
     let last = get_or seen (party_of (node_of old)) 0 in
+    let frames = c.in_ok-seat.ensures.sent in
     let wait = c.max.result in
-    let same = turn_same (words_at (keys_of c.loop.streams)) keys seen file file (party_of (node_of next)) (party_of (node_of old)) (log_of (node_of next)) (log_of (node_of next)) (posts_of next) (posts_of next) (Some wait)
+    let same = turn_same (words_at (keys_of c.loop.streams)) keys seen file file (party_of (node_of next)) (party_of (node_of old)) (log_of (node_of next)) (log_of (node_of next)) frames.0 frames.0 (Some wait)
     (ap words_at c.loop.invariant.keys) refl party refl refl in
     record {
       calls = w.calls (t.calls []);
       new = next;
       end = last + added_count (log_of (node_of next));
       goes_on = turn_asks file c.args.how.now.run.now keys (get_or (seen_of c.args.streams.now) (party_of (node_of old)) 0) last old mid next (written (sink_of c.args.conn.now)) (written (sink_of c.loop.conn))
-          (written (sink_of c.hand_in.new.conn)) c.requires.parties w t (posts_of next) seen refl wait (c.in_ok-seat.ensures.sent ∙ ap (put_behind (written (sink_of c.loop.conn))) same) [];
+          (written (sink_of c.hand_in.new.conn)) c.requires.parties w t frames.0 c.loop.invariant.clear frames.1 seen refl wait (frames.2 ∙ ap (put_behind (written (sink_of c.loop.conn))) same) [];
       stands = c.in_ok-next.ensures.stands;
     }
 
@@ -87,14 +89,17 @@ loop-preserved g c =
     let t = c.in_ok-next.ensures.turns in
     let party : party_of (node_of next) ≡ party_of (node_of old) = t.same.party ∙ w.same.party in
     let last = get_or seen (party_of (node_of old)) 0 in
+    let frames = c.in_ok-seat.ensures.sent in
     let wait = c.max.result in
-    let same = turn_same (words_at (keys_of c.loop.streams)) keys seen file file (party_of (node_of next)) (party_of (node_of old)) (log_of (node_of next)) (log_of (node_of next)) (posts_of next) (posts_of next) (Some wait)
+    let same = turn_same (words_at (keys_of c.loop.streams)) keys seen file file (party_of (node_of next)) (party_of (node_of old)) (log_of (node_of next)) (log_of (node_of next)) frames.0 frames.0 (Some wait)
     (ap words_at c.loop.invariant.keys) refl party refl refl in
     let goes : Goes next c.in-Some.seat = subst (λ (o : Option (Guest ByteOut ByteIn NoGate)). IfSome o (Goes next)) c.in-Some.is c.in_ok-seat.ensures.goes in
     record {
       going = turn_goes file c.args.how.now.run.now keys (get_or (seen_of c.args.streams.now) (party_of (node_of old)) 0) last old mid next (written (sink_of c.args.conn.now)) (written (sink_of c.loop.conn))
-          (written (sink_of c.hand_in.new.conn)) c.requires.parties w t (posts_of next) seen refl wait (get_or (seen_of c.hand_in.new.streams) (party_of (node_of old)) 0) c.in-Some.seat goes
+          (written (sink_of c.hand_in.new.conn)) c.requires.parties w t frames.0 c.loop.invariant.clear frames.1 seen refl wait (get_or (seen_of c.hand_in.new.streams) (party_of (node_of old)) 0) c.in-Some.seat goes
           (number_same (seen_of c.hand_in.new.streams) seen (party_of (node_of next)) (party_of (node_of old)) (log_of (node_of next)) (log_of (node_of next)) party refl c.in_ok-seat.ensures.number)
-          (c.in_ok-seat.ensures.sent ∙ ap (put_behind (written (sink_of c.loop.conn))) same);
+          (frames.2 ∙ ap (put_behind (written (sink_of c.loop.conn))) same);
+      clear = turn_clear file c.args.how.now.run.now keys (get_or (seen_of c.args.streams.now) (party_of (node_of old)) 0) last old mid next (written (sink_of c.args.conn.now)) (written (sink_of c.loop.conn))
+          (written (sink_of c.hand_in.new.conn)) c.requires.parties w t frames.0 c.loop.invariant.clear frames.1 c.in-Some.seat goes;
       keys = c.in_ok-seat.ensures.keys ∙ c.loop.invariant.keys;
     }

@@ -5,6 +5,7 @@ use Rattle.sj_remote.specs.Conn.{sink_of}
 use Rattle.sj_remote.specs.Streams.{keys_of, seen_of}
 use Rattle.sj_seat.specs.Views.{node_of}
 use Rattle.sj_streams.specs.Words.{words_at}
+use Rattle.sj_remote_seat.specs.Turns.{IsClear}
 use Rattle.sj_remote_seat.proofs.GoingLemmas.{Going}
 use Rattle.sj_remote_seat.proofs.play.go_on.Given as goal
 
@@ -13,5 +14,6 @@ abbrev pub invariant-loop : goal.invariant-loop
 invariant-loop g l = record {
   going : Going (file_of l.file) l.how.run.now (words_at (keys_of l.fn.streams)) (get_or (seen_of l.fn.streams) (party_of (node_of l.fn.seat)) 0)
       (get_or (seen_of l.streams) (party_of (node_of l.fn.seat)) 0) l.fn.seat l.going (g.K.Sink.written (sink_of l.fn.conn)) (g.K.Sink.written (sink_of l.conn));
+  clear : IsClear l.going;
   keys : keys_of l.streams ≡ keys_of l.fn.streams;
 }

@@ -1,21 +1,25 @@
-use Rattle.std.proofs.Common.{◌≡◌, ◌∙◌, ◌++◌, ap, arith, get_or, length, option_map, subst, sym, vec_len}
+use Rattle.std.proofs.Common.{◌≡◌, ◌∙◌, ◌++◌, ap, arith, get_or, length, option_map, refl, subst, sym, vec_len}
 use Rattle.std.proofs.lemmas.List.{length-map}
 use Rattle.sj_base.specs.Stream.{put_behind}
 use Rattle.sj_check.specs.Held.{file_in}
 use Rattle.sj_lang.specs.FileView.{file_of}
 use Rattle.sj_lang.specs.FileView.{party_of as party_at}
 use Rattle.sj_lang.specs.declared.file.File.{File}
+use Rattle.sj_lang.specs.Place.{done}
 use Rattle.sj_node.specs.Reading.{party_of}
 use Rattle.sj_party.specs.CanonicalFile.{file_text}
 use Rattle.sj_remote.specs.Conn.{sink_of}
 use Rattle.sj_remote.specs.Streams.{keys_of, log_keys, seen_of}
 use Rattle.sj_remote_run.specs.Caught.{entries_in, entry_count, reads_text}
 use Rattle.sj_remote_run.specs.Sent.{text_sent}
+use Rattle.sj_remote_run.proofs.PostLemmas.{clear_none}
 use Rattle.sj_resp.specs.Spelling.{command_text}
+use Rattle.sj_rules.specs.NodeRun.{told_frames}
 use Rattle.sj_seat.specs.Views.{node_of}
 use Rattle.sj_streams.specs.Commands.{get_words, share_words}
 use Rattle.sj_streams.specs.Words.{words_at}
 use Rattle.sj_remote_seat.specs.Played.{HasGone}
+use Rattle.sj_remote_seat.proofs.HandedLemmas.{clear_put}
 use Rattle.sj_remote_seat.proofs.WholeLemmas.{asks_named, before_are, is_played, parties_stay, refused_any}
 use Rattle.sj_remote_seat.proofs.play.play_seat.Goals as goal
 
@@ -24,8 +28,15 @@ go_on-requires g c =
     let file = file_of (file_in c.args.accepted.now) in
     record {
       empty = c.in_ok-seat.ensures.none;
-      parties = ap (λ f. length (file_of f).parties) c.file-3.ensures.value ∙ parties_stay file c.args.how.now.party (entries_in c.deref.result.now) c.in_ok-first.first c.in_ok-seat.seat c.in_ok-first.ensures c.in_ok-seat.ensures.again;
+      clear = c.in_ok-seat.ensures.clear;
+      parties = ap (λ f. length (file_of f).parties) c.file-3.ensures.value ∙ parties_stay file c.args.how.now.party (entries_in c.deref.result.now) c.in_ok-first.first c.in_ok-seat.seat c.in_ok-first.ensures.begins c.in_ok-seat.ensures.again;
     }
+
+pub catch_up-requires-clause-clear : goal.catch_up-requires-clause-clear
+catch_up-requires-clause-clear g c =
+    let first = c.in_ok-first.ensures in
+    clear_put c.in_ok-first.first _ (node_of c.in_ok-first.first) first.lanes refl
+    (clear_none c.in_ok-lanes.lanes.outs.items (node_of c.in_ok-first.first) c.in_ok-lanes.ensures.clear (λ q less. ap (told_frames done) (first.begins.node.boxes q)))
 
 pub returns-clause-ok : goal.returns-clause-ok
 returns-clause-ok g c =
@@ -53,7 +64,7 @@ returns-clause-ok g c =
     let gone = subst (λ (f : File). HasGone (text_sent (file_of f) run keys (party_of (node_of seat))) (file_of f) (get_or seen (party_of (node_of seat)) 0) seat c.in_ok-outcome.outcome
     (written (sink_of c.read_all.new.conn)) (written (sink_of c.go_on.new.conn))) c.file-3.ensures.value c.in_ok-outcome.ensures in
     is_played file run keys seen party (entries_in own) c.in_ok-first.first c.in_ok-seat.seat c.in_ok-outcome.outcome user password read.sent.0 (written (sink_of c.args.conn.now)) (written (sink_of c.read_all.new.conn))
-    (written (sink_of c.go_on.new.conn)) c.in_ok-first.ensures c.in_ok-seat.ensures.again number named wrote gone
+    (written (sink_of c.go_on.new.conn)) c.in_ok-first.ensures.begins c.in_ok-seat.ensures.again number named wrote gone
 
 pub returns-in_err-first-clause-refused : goal.returns-in_err-first-clause-refused
 returns-in_err-first-clause-refused g c =
