@@ -1,4 +1,5 @@
 mod ApartLemmas
+mod CallLemmas
 mod CaughtLemmas
 mod DeliveredLemmas
 mod GoingLemmas

@@ -1,5 +1,5 @@
 use Rattle.sj_seat.specs.Asking.{calls_made}
-use Rattle.sj_seat_run.proofs.PlayedLemmas.{played_call}
+use Rattle.sj_remote_seat.proofs.CallLemmas.{played_call}
 use Rattle.sj_work.proofs.LaneLaws.{laws}
 use Rattle.sj_remote_seat.proofs.turns.perform.Goals as goal
 
