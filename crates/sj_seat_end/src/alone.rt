@@ -4,7 +4,7 @@ ghost use Rattle.sj_check.specs.Held.{file_in as held};
 ghost use Rattle.sj_lane.specs.Told.{Rose};
 ghost use Rattle.sj_lang.specs.FileView.{file_of};
 ghost use Rattle.sj_seat_end.specs.Alone.{AreAlone, AreNobodys, is_party};
-ghost use Rattle.sj_seat_end.specs.Told.{IsAtEnd};
+ghost use Rattle.sj_seat_end.specs.Told.{IsAfterRun, IsAtEnd};
 ghost use Rattle.sj_seat_run.specs.Refusals.{IsRefusedOver};
 
 use crate::ending::run_to_end;
@@ -63,6 +63,8 @@ pub fn run_alone<R: Threads + Sync, L: Links, G: Gate, C: Play + Send + Drop>(
     // As of `run_to_end`, where that party alone has a code.
     ensures end { IfOk result (λ e. IsAtEnd (file_of (held accepted.now)) (is_party party)
         e.world) }
+    ensures logged { IfOk result (λ e. IsAfterRun L.Out.OutLane L.In.InLane L.joined
+        (file_of (held accepted.now)) looks (L.tells links.old) (is_party party) e.world) }
     ensures link_fault { result ≡ Err SeatedRefusal.LinkFault → Rose (L.faults links.old) (L.faults links.new) }
     ensures cause { IfErr result (IsRefusedOver L.Out.OutLane L.In.InLane L.joined
         (file_of (held accepted.now)) looks (L.tells links.old) (is_party party)) }

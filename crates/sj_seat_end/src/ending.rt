@@ -3,7 +3,7 @@ ghost use Rattle.std.specs.Prelude.{◌≡◌, ◌≤◌, Err, IfErr, IfOk, leng
 ghost use Rattle.sj_check.specs.Held.{file_in as held};
 ghost use Rattle.sj_lane.specs.Told.{Rose};
 ghost use Rattle.sj_lang.specs.FileView.{file_of};
-ghost use Rattle.sj_seat_end.specs.Told.{IsAtEnd};
+ghost use Rattle.sj_seat_end.specs.Told.{IsAfterRun, IsAtEnd};
 ghost use Rattle.sj_seat_run.specs.Refusals.{IsRefusedOver};
 ghost use Rattle.sj_seat_run.specs.Seats.{HasSameSeats, seats_by};
 
@@ -44,6 +44,10 @@ pub fn run_to_end<R: Threads + Sync, L: Links, G: Gate, C: Play + Send + Drop>(
         e.world) }
     ensures codes { IfOk result (λ e. HasSameSeats (length (file_of (held accepted.now)).parties)
         codes.items e.codes.items) }
+
+    // Its history begins with the joined logs of the run. So nothing that a code did is lost.
+    ensures logged { IfOk result (λ e. IsAfterRun L.Out.OutLane L.In.InLane L.joined
+        (file_of (held accepted.now)) looks (L.tells links.old) (seats_by codes.items) e.world) }
 
     // Why there is none, as for the run itself.
     ensures link_fault { result ≡ Err SeatedRefusal.LinkFault → Rose (L.faults links.old) (L.faults links.new) }
