@@ -9,13 +9,13 @@ use Rattle.sj_remote.specs.declared.conn.Conn.{Conn}
 use Rattle.sj_remote.proofs.ReplyLemmas.{read_both, read_stays}
 use Rattle.sj_resp.specs.Command.{AreRead}
 use Rattle.sj_resp.specs.Token.{TokenAt, Bulk}
-use Rattle.sj_streams.specs.Gathering.{IsReply, due_after}
+use Rattle.sj_streams.specs.Gathering.{AreDue, IsReply, due_after}
 use Rattle.sj_remote_run.specs.Asked.{Talked, Talks, tokens_of}
 
 -- a name alone is a reply
 pub name_whole : (name : List ℕ) → IsReply (Bulk name ∷ [])
-unfolding due_after
-name_whole name = refl
+unfolding due_after AreDue
+name_whole name = record { whole = refl; needed = (omega arith, tt) }
 
 still : (o : Option (List ℕ)) → o ≡ put_before [] o
 still None = refl

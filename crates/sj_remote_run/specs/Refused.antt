@@ -1,5 +1,5 @@
 -- Why a server's answer isn't what a party that is played asked for.
-use Rattle.std.specs.Prelude.{◌≡◌, ◌⊎◌, ⊤, ℕ, ℤ, List, [], ◌∷◌, Option, Some, option_map}
+use Rattle.std.specs.Prelude.{◌≡◌, ◌⊎◌, ⊤, ℕ, ℤ, List, [], ◌∷◌, Option, Some, None, option_map}
 use Rattle.sj_base.specs.Stream.{Rose}
 use Rattle.sj_remote.specs.Conn.{IsLost, IsNoReply, sink_of}
 use Rattle.sj_remote.specs.Talks.{Heard}
@@ -29,27 +29,31 @@ IsErrorFor _ tokens = ⊥
 abbrev pub IsNone : {A : Type 0} → Read A → Type 0
 IsNone {A} read = (x : A) (rest : List TokenAt) → read ≡ Good x rest → ⊥
 
+-- it is no error, and nothing of that form is at the front
+abbrev pub IsOdd : {A : Type 0} → List TokenAt → Read A → Type 0
+IsOdd tokens read = (failure_at tokens ≡ None) × IsNone read
+
 -- what a reply to the password has that doesn't take it: any error but that of a server that is away refuses it
 abbrev pub IsNoEntry : PlayRefusal → List TokenAt → Type 0
 IsNoEntry plays.NoServer tokens = IsError refusals.Away tokens
 IsNoEntry plays.Password tokens = (r : Refusal) × IsError r tokens × (r ≡ refusals.Away → ⊥)
-IsNoEntry plays.NoReply tokens = IsNone (well_at tokens)
+IsNoEntry plays.NoReply tokens = IsOdd tokens (well_at tokens)
 IsNoEntry _ tokens = ⊥
 
 -- what a reply to the run's new file has that is no number
 abbrev pub IsNoShare : PlayRefusal → List TokenAt → Type 0
-IsNoShare plays.NoReply tokens = IsNone (number_at tokens)
+IsNoShare plays.NoReply tokens = IsOdd tokens (number_at tokens)
 IsNoShare e tokens = IsErrorFor e tokens
 
 -- what a reply to the question for the file has that isn't this text: another one, or none
 abbrev pub IsNoFile : (text : List ℕ) → PlayRefusal → List TokenAt → Type 0
-IsNoFile text plays.NoReply tokens = IsNone (text_at tokens)
+IsNoFile text plays.NoReply tokens = IsOdd tokens (text_at tokens)
 IsNoFile text plays.OtherFile tokens = (shared : Option (List ℕ)) × (rest : List TokenAt) × (text_at tokens ≡ Good shared rest) × (shared ≡ Some text → ⊥)
 IsNoFile text e tokens = IsErrorFor e tokens
 
 -- what a reply to an entry that is added has that isn't its name
 abbrev pub IsNotAdded : PlayRefusal → List TokenAt → Type 0
-IsNotAdded plays.NoReply tokens = (name : List ℕ) → tokens ≡ Bulk name ∷ [] → ⊥
+IsNotAdded plays.NoReply tokens = (failure_at tokens ≡ None) × ((name : List ℕ) → tokens ≡ Bulk name ∷ [] → ⊥)
 IsNotAdded e tokens = IsErrorFor e tokens
 
 -- something came of that party's stream
@@ -59,7 +63,7 @@ HasOwn party (c ∷ cs) = (c.stream ≡ party) ⊎ HasOwn party cs
 
 -- what a reply to a read of streams has that isn't what comes next of them; or an entry of the own one came, which another process added
 abbrev pub IsNotRead : (keys : List (List ℕ)) → (seen : List ℕ) → (party : ℕ) → PlayRefusal → List TokenAt → Type 0
-IsNotRead keys seen party plays.NoReply tokens = (cs : List CameAt) → came_at keys seen tokens ≡ Good cs [] → ⊥
+IsNotRead keys seen party plays.NoReply tokens = (failure_at tokens ≡ None) × ((cs : List CameAt) → came_at keys seen tokens ≡ Good cs [] → ⊥)
 IsNotRead keys seen party plays.Overtaken tokens = IsErrorFor plays.Overtaken tokens ⊎ ((cs : List CameAt) × (came_at keys seen tokens ≡ Good cs []) × HasOwn party cs)
 IsNotRead keys seen party plays.NoFrame tokens = came_at keys seen tokens ≡ Bad misreads.Gap
 IsNotRead keys seen party e tokens = IsErrorFor e tokens
