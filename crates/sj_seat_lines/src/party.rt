@@ -94,6 +94,13 @@ impl<'a> Party<'a> {
         self.texts
     }
 
+    /// The ends that it holds, under their names.
+    pub fn names(&self) -> &[Name]
+        ensures { named result.now ≡ (party_at self.now).names }
+    {
+        &self.names
+    }
+
     /// What comes of the next line. Its answer is put after the text, where it has one already.
     pub fn hear(
         &mut self,
