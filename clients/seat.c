@@ -1,6 +1,7 @@
 /* A party of a file, played by C over the program `sjseat`. To copy.
    usage: seat FILE PARTY LINE.., which asks for one line after another, each again as long as it waits, and prints its answer. SJSEAT
-   says where the program is, if it isn't on the path. */
+   says where the program is, if it isn't on the path. SEAT has its words after the party, as `--run visit`; without it they are `--local`.
+   Over a server what a process before this one did is printed first, and as many lines are left out. */
 #define _POSIX_C_SOURCE 200809L
 #include <stdio.h>
 #include <stdlib.h>
@@ -11,6 +12,7 @@
 struct seat {
     FILE *lines, *answers;
     pid_t child;
+    int again;    /* so many lines were done before */
     char *answer; /* the last one */
     size_t room;
 };
@@ -32,13 +34,16 @@ static enum said answered(struct seat *seat) {
 /* Starts the program, which plays that party; 0 where it can't. */
 static int start(struct seat *seat, char *party) {
     char *program = getenv("SJSEAT") ? getenv("SJSEAT") : "sjseat";
+    char *words[16] = {program, party, "--local"}, *more = getenv("SEAT");
     int to[2], from[2];
+    for (int i = 2; more && i < 15; i++)
+        words[i] = strtok(i == 2 ? more : NULL, " ");
     if (pipe(to) || pipe(from) || (seat->child = fork()) < 0)
         return 0;
     if (seat->child == 0) {
         dup2(to[0], 0), dup2(from[1], 1);
         close(to[0]), close(to[1]), close(from[0]), close(from[1]);
-        execlp(program, program, party, "--local", (char *)NULL);
+        execvp(program, words);
         _exit(127);
     }
     close(to[0]), close(from[1]);
@@ -57,7 +62,9 @@ static int begin(struct seat *seat, const char *file, char *party) {
     fclose(text);
     fputs("\n%%talk\n", seat->lines);
     fflush(seat->lines);
-    return answered(seat) == FINE;
+    for (; answered(seat) == STOPPED && !strncmp(seat->answer ? seat->answer : "", "again ", 6); seat->again++)
+        puts(seat->answer);
+    return seat->answer && !strcmp(seat->answer, "go");
 }
 
 /* Asks for a line, again as long as it waits. */
@@ -85,7 +92,7 @@ int main(int count, char **words) {
     struct seat seat = {0};
     if (count < 3 || !begin(&seat, words[1], words[2]))
         return puts(count < 3 ? "usage: seat FILE PARTY LINE.." : seat.answer ? seat.answer : "not played"), 2;
-    for (int i = 3; i < count && ask(&seat, words[i]) != STOPPED; i++)
+    for (int i = 3 + seat.again; i < count && ask(&seat, words[i]) != STOPPED; i++)
         puts(seat.answer);
     return leave(&seat);
 }

@@ -1,12 +1,11 @@
-"""A party of a file, played by Python. Copy this file: it needs Python alone, and the program `sjseat` on the
-path or where the variable SJSEAT says. The other parties of the file run beside it.
+"""A party of a file, played by Python. Copy this file: it needs Python alone, and the program `sjseat` on the path or where
+the variable SJSEAT says. The other parties run beside it; with the options "--run", "visit" they are processes over a server.
 with Session("desk.sj", "store") as store:
     end = store.take("u", "s")         # an end, under the name that it gets
     wanted = store.take(end)           # a number, a truth value, a text or a label, or whether a loop goes on
     store.send(end, 12)
     store.close(end)
-print(store.rest)                      # the transcript
-What the file doesn't allow raises the rule that says so. Nothing of it happens then, and the session goes on."""
+print(store.rest)  # the transcript. What the file doesn't allow raises the rule that says so. Nothing of it happens then, and the session goes on."""
 import contextlib
 import os
 import subprocess
@@ -31,11 +30,13 @@ NoForm, NotHeld, BeginsOtherwise, WrongEnd, WrongKind, AtLimit, NotOpened = RULE
 
 class Session:
     def __init__(self, file, party, *options):
-        words = [os.environ.get("SJSEAT", "sjseat"), party, "--local", *options]
+        words = [os.environ.get("SJSEAT", "sjseat"), party, *([] if "--run" in options else ["--local"]), *options]
         self.child = subprocess.Popen(words, stdin=subprocess.PIPE, stdout=subprocess.PIPE, encoding="utf-8")
-        self.rest = self.status = None
+        self.rest, self.status, self.again = None, None, []
         with open(file, encoding="utf-8") as text:
             said = self.say(text.read() + "\n%%talk")
+        while said.startswith("again "):  # over a server: what a process before this one did
+            self.again, said = self.again + [said[6:]], self.child.stdout.readline().rstrip("\n")
         if said != "go":  # the file isn't accepted, or has no such party
             self.leave()
             raise Stopped((said + "\n" + self.rest).strip())
@@ -56,8 +57,7 @@ class Session:
         """What answers a line of docs/SEAT.md, as ask("ahead", "x") or ask("request", "x", "p", "to", "desk")."""
         word, _, rest = self.say(" ".join(map(str, words)).replace("\n", "\r")).partition(" ")
         if word == "refused":
-            _, rule, why = rest.split(" ", 2)
-            raise RULES[rule](why)
+            raise RULES[rest.split(" ")[1]](rest.split(" ", 2)[2])
         if word not in ("fine", "took", "opened", "ready", "not", "ends", "ahead"):
             raise (Waiting if word == "waiting" else Stopped)((word + " " + rest).strip())
         return rest

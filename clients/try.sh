@@ -1,7 +1,8 @@
 #!/bin/sh
 # Tries the clients of this folder on files of examples/, the program in README.md, and examples/desk.py and front.py. SJSEAT names the
-# program where it isn't as `rt ci` leaves it. What isn't installed is left out, and that is said. The last line is `N tried, M bad`; the
-# status is 1 where one was bad.
+# program where it isn't as `rt ci` leaves it. What isn't installed is left out, and that is said. Last three parties of desk.sj in three
+# languages are processes over a Redis server, at a port that is free, or PORT. The last line is `N tried, M bad`; the status is 1 where one
+# was bad.
 cd "$(dirname "$0")" || exit 2
 SJSEAT=${SJSEAT:-$(pwd)/../crates/sjseat/out/sjseat}
 export SJSEAT
@@ -9,8 +10,10 @@ if [ ! -x "$SJSEAT" ]; then
     echo "the clients are left out: $SJSEAT isn't built"
     exit 0
 fi
+unset SEAT
 work=$(mktemp -d) || exit 2
-trap 'rm -rf "$work"' EXIT
+server=''
+trap '[ -z "$server" ] || kill "$server"; rm -rf "$work"' EXIT
 tried=0
 bad=0
 
@@ -89,6 +92,46 @@ if command -v cc >/dev/null && cc -o "$work/seat" seat.c 2>"$work/said"; then
         'accept s tell from agency' 'take s' 'send s 200' 'close s'
 else
     echo "no C compiler is here (apt-get install gcc libc6-dev): its client is left out"
+fi
+if command -v redis-server >/dev/null && command -v python3 >/dev/null && [ -x "$work/seat" ]; then
+    PORT=${PORT:-7398}
+    redis-server --bind 127.0.0.1 --port "$PORT" --save '' --dir "$work" >/dev/null &
+    server=$!
+    over="--run desk --server 127.0.0.1:$PORT"
+    SEAT=$over
+    export PORT SEAT
+    # the server may come late; a program that was killed after it sent is started again
+    cat >"$work/ann.py" <<'END'
+import os
+import time
+from seat import Session, Stopped
+def ann():
+    for _ in range(100):
+        try:
+            return Session("../examples/desk.sj", "ann", "--run", "desk", "--server", "127.0.0.1:" + os.environ["PORT"], "--patience", "1000")
+        except Stopped:
+            time.sleep(0.1)
+first = ann()
+first.send("x", "an umbrella")
+first.child.kill()
+with ann() as again:
+    print(again.again, again.take("x"))
+    again.close("x")
+print(again.rest, end="")
+END
+    printf '%s\n' "['send x \"an umbrella\"'] 12" ended >"$work/wanted"
+    { sleep 1; "$work/seat" ../examples/desk.sj desk 'delegate z y' 'close z' >"$work/desk"; } &
+    # shellcheck disable=SC2086 # these are words, one by one
+    { sleep 1; python3 -B ../examples/desk.py $over >"$work/store"; } &
+    store=$!
+    is 'Ann is killed and goes on' env PYTHONPATH=. python3 -B "$work/ann.py"
+    wait "$store"
+    printf '%s\n' 'no price yet: the place of the end begins otherwise' 'wanted: an umbrella' ended >"$work/wanted"
+    is 'the store over a server' cat "$work/store"
+    printf '%s\n' fine fine ended >"$work/wanted"
+    is 'the desk over a server' cat "$work/desk"
+else
+    echo "a server, Python or a C compiler isn't here (apt-get install redis-server): parties over a server are left out"
 fi
 echo "$tried tried, $bad bad"
 [ "$bad" -eq 0 ]

@@ -24,6 +24,7 @@ trial streams.py 40 - 500
 trial bytes.py 5000 - 1000000
 trial remote.py 28 - 500
 trial seats.py 20 - 2000
+trial remote_seats.py 20 - 2000
 trial seat_runs.py 20 400 100 - 500 10000 2000
 trial soak.py 0.5 - 30
 exit "$status"

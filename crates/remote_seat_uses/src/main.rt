@@ -16,7 +16,7 @@ use sj_base::{ReadSource, WriteSink};
 use sj_check::Accepted;
 use sj_remote::Conn;
 use sj_remote_run::{Outcome, Play, PlayRefusal};
-use sj_remote_seat::{SeatPlayRefusal, play_seat};
+use sj_remote_seat::{Plain, SeatPlayRefusal, play_seat};
 use std::net::{OpenStream, TcpStream};
 use std::process::ExitCode;
 use std::time::Duration;
@@ -97,7 +97,8 @@ fn play_once(
     };
     let date = text_named(accepted, b"3 May");
     let accept = word_named(accepted, b"ACCEPT");
-    let mut code = Supplier::new(rt, date, accept, words.pause);
+    let code = Supplier::new(rt, date, accept, words.pause);
+    let mut code = Plain { code };
     play_seat(rt.alloc(), &mut conn, accepted, &how, &mut code)
 }
 

@@ -7,4 +7,5 @@ mod HandedLemmas
 mod RebuiltLemmas
 mod SatLemmas
 mod SentLemmas
+mod StepsLemmas
 mod WholeLemmas

@@ -1,11 +1,15 @@
 //! An act of the party's stream, done again by what its code asks for.
+#![tactic(auto, using(crate::proofs::StepsLemmas::no_step, crate::proofs::StepsLemmas::one_step, crate::proofs::StepsLemmas::steps_then))]
+
 ghost use Rattle.std.specs.Prelude.{◌≡◌, ◌∷◌, [], IsTrue, OnOk};
 ghost use Rattle.sj_node.specs.Node.{log_of};
+ghost use Rattle.sj_remote_seat.specs.Steps.{Steps};
 ghost use Rattle.sj_seat.specs.Views.{node_of};
 ghost use Rattle.sj_seat_run.specs.Played.{Played};
 
 use crate::SeatPlayRefusal;
 use crate::asking::Asking;
+use crate::code::Code;
 use crate::turns::perform;
 use sj_base::Msg;
 use sj_core::is_the_line;
@@ -14,7 +18,6 @@ use sj_lane::{InLane, OutLane};
 use sj_node::Node;
 use sj_remote_run::PlayRefusal;
 use sj_seat::{Answer, Ask, Guard, Guest, OpenWish, Outcome, SeatRefusal, Wish};
-use sj_seat_run::Play;
 use sj_work::{Gate, Stop};
 
 /// So often in a row the code may ask for something else than the act that comes next.
@@ -128,7 +131,7 @@ fn answer_beside(node: &Node, ask: &Ask) -> Answer {
 
 /// Asks the code until it asks for what the entry notes, and does that. Anything else is answered by
 /// its refusal, by whether a message is there, or as waiting.
-pub(crate) fn ask_for<O: OutLane, I: InLane, G: Gate, C: Play>(
+pub(crate) fn ask_for<O: OutLane, I: InLane, G: Gate, C: Code>(
     guest: &mut Guest<'_, O, I, G>,
     asking: &mut Asking,
     code: &mut C,
@@ -136,10 +139,11 @@ pub(crate) fn ask_for<O: OutLane, I: InLane, G: Gate, C: Play>(
 ) -> Result<(), SeatPlayRefusal>
     ensures played { OnOk result (Played O.OutLane I.InLane guest.old guest.new) }
     ensures only { OnOk result (log_of (node_of guest.new) ≡ entry.now ∷ []) }
+    ensures steps { Steps C.Code.step code.old code.new }
 {
     let mut asked: u32 = 0;
     for _ in 0..u64::MAX {
-        asking.turn_to(code, guest.guard());
+        asking.turn_again(code, guest.guard(), &entry.note);
         let Some(ask) = asking.asked() else {
             return Err(SeatPlayRefusal::OtherCode);
         };

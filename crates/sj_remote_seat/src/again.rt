@@ -1,4 +1,6 @@
 //! An entry of the party's stream, done again.
+#![tactic(auto, using(crate::proofs::StepsLemmas::no_step, crate::proofs::StepsLemmas::one_step, crate::proofs::StepsLemmas::steps_then))]
+
 ghost use Rattle.std.specs.Prelude.{◌≡◌, [], IfOk, IsTrue, map};
 ghost use Rattle.sj_check.specs.Held.{file_in};
 ghost use Rattle.sj_engine.specs.Lanes.{pushed_on};
@@ -6,6 +8,7 @@ ghost use Rattle.sj_lang.specs.FileView.{file_of};
 ghost use Rattle.sj_node.specs.Node.{log_of};
 ghost use Rattle.sj_remote_run.specs.Entries.{entry_words};
 ghost use Rattle.sj_remote_seat.specs.Caught.{DidAgain};
+ghost use Rattle.sj_remote_seat.specs.Steps.{Steps};
 ghost use Rattle.sj_remote_seat.specs.Turns.{IsClear, Sat};
 ghost use Rattle.sj_seat.specs.Views.{node_of};
 ghost use Rattle.sj_streams.specs.Words.{words_at};
@@ -13,6 +16,7 @@ ghost use Rattle.sj_work.specs.Laned.{entries_of};
 
 use crate::SeatPlayRefusal;
 use crate::asking::Asking;
+use crate::code::Code;
 use crate::events::redo;
 use crate::seat::Seat;
 use sj_check::Accepted;
@@ -20,13 +24,12 @@ use sj_end::Entry;
 use sj_engine::ByteOut;
 use sj_lang::File;
 use sj_remote_run::{PlayRefusal, batch_words, clear, lines_in, push_all, same_words};
-use sj_seat_run::Play;
 use sj_streams::lines_of;
 use sj_work::Worker;
 use std::alloc::Global;
 
 /// Does again the events of a batch, whose lines these are. Answers their entries.
-fn redo_lines<'a, C: Play>(
+fn redo_lines<'a, C: Code>(
     alloc: Global,
     accepted: &Accepted,
     seat: Seat<'a>,
@@ -37,6 +40,7 @@ fn redo_lines<'a, C: Play>(
     requires { log_of (node_of seat) ≡ [] }
     ensures sat { IfOk result (λ r. Sat seat.entry r.0 (entries_of r.1.items)) }
     ensures none { IfOk result (λ r. log_of (node_of r.0) ≡ []) }
+    ensures steps { Steps C.Code.step code.old code.new }
 {
     let lines = lines_in(alloc, accepted.file(), text)?;
     let mut going = seat;
@@ -75,7 +79,7 @@ fn is_entry(
 
 /// Does a batch again whose entry has these words. It has to be the very entry that the party adds
 /// here, lines and frames.
-pub(crate) fn do_again<'a, C: Play>(
+pub(crate) fn do_again<'a, C: Code>(
     alloc: Global,
     accepted: &Accepted,
     seat: Seat<'a>,
@@ -89,6 +93,7 @@ pub(crate) fn do_again<'a, C: Play>(
         DidAgain (file_of (file_in accepted.now)) (words_at words.now) seat.entry new) }
     ensures clear { IfOk result (λ new. IsClear new) }
     ensures none { IfOk result (λ new. log_of (node_of new) ≡ []) }
+    ensures steps { Steps C.Code.step code.old code.new }
 {
     let Some(text) = lines_of(words) else {
         return Err(SeatPlayRefusal::Party(PlayRefusal::LogFault));

@@ -1,8 +1,12 @@
 //! What the code asks for, and what it is answered.
+#![tactic(auto, using(crate::proofs::StepsLemmas::no_step, crate::proofs::StepsLemmas::one_step, crate::proofs::StepsLemmas::steps_then))]
 
+ghost use Rattle.sj_remote_seat.specs.Steps.{Steps};
+
+use crate::code::Code;
 use sj_base::NoMemory;
+use sj_end::Note;
 use sj_seat::{Answer, Ask, Guard, Outcome, SeatRefusal};
-use sj_seat_run::Play;
 use std::alloc::Global;
 
 /// So many calls that wait are kept in mind.
@@ -38,11 +42,28 @@ impl Asking {
     }
 
     /// Asks the code. It isn't asked again before that is answered, nor once it is over.
-    pub fn turn_to<C: Play>(&mut self, code: &mut C, seat: Guard<'_>) {
+    pub fn turn_to<C: Code>(&mut self, code: &mut C, seat: Guard<'_>)
+        ensures { Steps C.Code.step code.old code.new }
+    {
         if self.ask.is_none() && !self.over {
             self.ask = code.next(seat, self.answer);
             self.over = self.ask.is_none();
         }
+    }
+
+    /// The same, where the party's next act stands in its stream already, with that note.
+    pub fn turn_again<C: Code>(&mut self, code: &mut C, seat: Guard<'_>, did: &Note)
+        ensures { Steps C.Code.step code.old code.new }
+    {
+        if self.ask.is_none() && !self.over {
+            self.ask = code.again(seat, self.answer, did);
+            self.over = self.ask.is_none();
+        }
+    }
+
+    /// Whether the code has yet to be told of an answer.
+    pub fn owes(&self) -> bool {
+        self.ask.is_none() && !self.over
     }
 
     /// What the code asks for.

@@ -1,21 +1,24 @@
 //! An event of the party's stream, done again.
+#![tactic(auto, using(crate::proofs::StepsLemmas::no_step, crate::proofs::StepsLemmas::one_step, crate::proofs::StepsLemmas::steps_then))]
+
 ghost use Rattle.std.specs.Prelude.{◌≡◌, ◌∷◌, [], IfOk, OnOk};
 ghost use Rattle.sj_end.specs.Lines.{entry_at};
 ghost use Rattle.sj_end.specs.Views.{frame_at};
 ghost use Rattle.sj_node.specs.Node.{log_of};
+ghost use Rattle.sj_remote_seat.specs.Steps.{Steps};
 ghost use Rattle.sj_remote_seat.specs.Turns.{IsDelivered, Sat};
 ghost use Rattle.sj_seat.specs.Views.{node_of};
 
 use crate::SeatPlayRefusal;
 use crate::acts::{ask_for, is_only};
 use crate::asking::Asking;
+use crate::code::Code;
 use crate::seat::Seat;
 use sj_end::{CLOCK_END, Entry, Event, Frame};
 use sj_engine::{ByteIn, ByteOut};
 use sj_lane::{InLane, Lanes, PopRefusal};
 use sj_node::{DeliverRefusal, Node};
 use sj_remote_run::{PlayRefusal, push_all};
-use sj_seat_run::Play;
 use sj_work::Worker;
 use std::alloc::Global;
 
@@ -58,7 +61,7 @@ fn no_lanes(alloc: Global) -> Lanes<ByteOut, ByteIn>
 }
 
 /// Does again the act that the entry notes. Its party has no lanes meanwhile, so nothing comes.
-fn act_again<'a, C: Play>(
+fn act_again<'a, C: Code>(
     alloc: Global,
     seat: Seat<'a>,
     asking: &mut Asking,
@@ -68,6 +71,7 @@ fn act_again<'a, C: Play>(
     requires { log_of (node_of seat) ≡ [] }
     ensures sat { IfOk result (λ new. Sat seat.entry new (entry_at entry.now ∷ [])) }
     ensures none { IfOk result (λ new. log_of (node_of new) ≡ []) }
+    ensures steps { Steps C.Code.step code.old code.new }
 {
     let (before, holdings) = seat.into_parts();
     let (mut lanes, node, _) = before.into_parts();
@@ -103,7 +107,7 @@ fn take_again<'a>(
 }
 
 /// Does again the event that the entry notes.
-pub(crate) fn redo<'a, C: Play>(
+pub(crate) fn redo<'a, C: Code>(
     alloc: Global,
     seat: Seat<'a>,
     asking: &mut Asking,
@@ -113,6 +117,7 @@ pub(crate) fn redo<'a, C: Play>(
     requires { log_of (node_of seat) ≡ [] }
     ensures sat { IfOk result (λ new. Sat seat.entry new (entry_at entry.now ∷ [])) }
     ensures none { IfOk result (λ new. log_of (node_of new) ≡ []) }
+    ensures steps { Steps C.Code.step code.old code.new }
 {
     match entry.event {
         Event::Act => act_again(alloc, seat, asking, code, entry),

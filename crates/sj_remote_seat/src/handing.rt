@@ -1,5 +1,5 @@
 //! What a party noted, handed in, and what comes then.
-ghost use Rattle.std.specs.Prelude.{◌≡◌, ◌+◌, ◌++◌, List, IfOk, IfSome, OnOk, Some, get_or};
+ghost use Rattle.std.specs.Prelude.{◌≡◌, ◌+◌, ◌++◌, List, IfOk, OnOk, Some, get_or};
 ghost use Rattle.sj_base.specs.Stream.{put_behind};
 ghost use Rattle.sj_lang.specs.FileView.{file_of};
 ghost use Rattle.sj_lang.specs.Place.{Place};
@@ -24,8 +24,8 @@ use sj_remote_run::{PlayRefusal, Player, add, exchange, push_all};
 use sj_work::Worker;
 use std::alloc::Global;
 
-/// Adds what the party noted, where it noted something, and takes what comes. None where nothing
-/// came for so long.
+/// Adds what the party noted, where it noted something, and takes what comes. Answers whether
+/// something came within so long.
 pub(crate) fn hand_in<'a, S: Source, K: Sink>(
     alloc: Global,
     conn: &mut Conn<S, K>,
@@ -33,7 +33,7 @@ pub(crate) fn hand_in<'a, S: Source, K: Sink>(
     seat: Seat<'a>,
     streams: &mut Streams,
     wait: u64,
-) -> Result<Option<Seat<'a>>, PlayRefusal>
+) -> Result<(Seat<'a>, bool), PlayRefusal>
     ensures sent { OnOk result ((frames : List (List (FrameAt Place)))
         × AreHanded seat.entry frames × (K.written (sink_of conn.new)
         ≡ put_behind (K.written (sink_of conn.old)) (handed_text (words_at (keys_of streams.old))
@@ -44,17 +44,15 @@ pub(crate) fn hand_in<'a, S: Source, K: Sink>(
         ≡ get_or (seen_of streams.old) (party_of (node_of seat.entry)) 0
         + added_count (log_of (node_of seat.entry))) }
     ensures keys { keys_of streams.new ≡ keys_of streams.old }
-    ensures goes { IfOk result (λ o. IfSome o (Goes seat.entry)) }
+    ensures goes { IfOk result (λ r. Goes seat.entry r.0) }
 {
     let (worker, holdings) = seat.into_parts();
     let (mut lanes, mut node, noted) = worker.into_parts();
     push_all(alloc, &mut node, &mut lanes)?;
     let mut player = Player { node, lanes };
-    if !exchange(alloc, conn, file, &mut player, streams, &noted, wait)? {
-        return Ok(None);
-    }
+    let came = exchange(alloc, conn, file, &mut player, streams, &noted, wait)?;
     let worker = Worker::new(player.node, player.lanes);
-    Ok(Some(holdings.with_worker(worker)))
+    Ok((holdings.with_worker(worker), came))
 }
 
 /// Adds what the party noted last.

@@ -6,6 +6,7 @@ mod again;
 mod asking;
 mod batch;
 mod catching;
+mod code;
 mod events;
 mod handing;
 mod home;
@@ -16,5 +17,6 @@ mod start;
 mod stops;
 mod turns;
 
+pub use code::{Code, Plain};
 pub use play::play_seat;
 pub use refusal::SeatPlayRefusal;

@@ -1,4 +1,6 @@
 //! A party that code plays, over a connection.
+#![tactic(auto, using(crate::proofs::StepsLemmas::no_step, crate::proofs::StepsLemmas::one_step, crate::proofs::StepsLemmas::steps_then))]
+
 ghost use Rattle.std.specs.Prelude.{◌≡◌, ◌<◌, [], IfErr, IfOk, get_or, length};
 ghost use Rattle.sj_check.specs.Held.{file_in};
 ghost use Rattle.sj_lang.specs.FileView.{file_of};
@@ -8,6 +10,7 @@ ghost use Rattle.sj_remote.specs.Conn.{sink_of};
 ghost use Rattle.sj_remote.specs.Streams.{keys_of, seen_of};
 ghost use Rattle.sj_remote_run.specs.Sent.{text_sent};
 ghost use Rattle.sj_remote_seat.specs.Played.{HasGone, IsPlayed, IsRefused};
+ghost use Rattle.sj_remote_seat.specs.Steps.{Steps};
 ghost use Rattle.sj_remote_seat.specs.Turns.{IsClear};
 ghost use Rattle.sj_seat.specs.Views.{node_of};
 ghost use Rattle.sj_streams.specs.Words.{words_at};
@@ -16,6 +19,7 @@ use crate::SeatPlayRefusal;
 use crate::asking::Asking;
 use crate::batch::play_batch;
 use crate::catching::catch_up;
+use crate::code::Code;
 use crate::handing::{hand_in, hand_in_last};
 use crate::seat::Seat;
 use crate::start::take_seat;
@@ -27,8 +31,13 @@ use sj_remote_run::{Outcome, Play, PlayRefusal, new_lanes, read_all, share, sign
 use sj_work::NoGate;
 use std::alloc::Global;
 
+/// So many milliseconds to wait for what comes: hardly any where the code has yet to be told something.
+fn wait_for(brief: bool, most: u64) -> u64 {
+    if brief { 1 } else { most.max(1) }
+}
+
 /// Batches until there is a cause to stop.
-fn go_on<S: Source, K: Sink, C: sj_seat_run::Play>(
+fn go_on<S: Source, K: Sink, C: Code>(
     alloc: Global,
     conn: &mut Conn<S, K>,
     file: &File,
@@ -41,10 +50,11 @@ fn go_on<S: Source, K: Sink, C: sj_seat_run::Play>(
     requires empty { log_of (node_of seat) ≡ [] }
     requires clear { IsClear seat }
     requires parties { length (file_of file.now).parties ≡ parties_of (node_of seat) }
-    ensures { IfOk result (λ o. HasGone (text_sent (file_of file.now) how.now.run.now
+    ensures gone { IfOk result (λ o. HasGone (text_sent (file_of file.now) how.now.run.now
         (words_at (keys_of streams.old)) (party_of (node_of seat.entry))) (file_of file.now)
         (get_or (seen_of streams.old) (party_of (node_of seat.entry)) 0) seat.entry o
         (K.written (sink_of conn.old)) (K.written (sink_of conn.new))) }
+    ensures steps { Steps C.Code.step code.old code.new }
 {
     let mut going = seat;
     for _ in 0..u64::MAX {
@@ -53,10 +63,13 @@ fn go_on<S: Source, K: Sink, C: sj_seat_run::Play>(
             hand_in_last(alloc, conn, file, next, streams)?;
             return Ok(outcome);
         }
-        going = match hand_in(alloc, conn, file, next, streams, how.wait.max(1))? {
-            Some(seat) => seat,
-            None => return Ok(outcome),
-        };
+        let on = outcome == Outcome::Waits && !asking.is_over() && code.is_live();
+        let wait = wait_for(on && asking.owes(), how.wait);
+        let (seat, came) = hand_in(alloc, conn, file, next, streams, wait)?;
+        if !came && !on {
+            return Ok(outcome);
+        }
+        going = seat;
     }
     // No stream has so many entries.
     Err(PlayRefusal::TooLong)
@@ -64,8 +77,8 @@ fn go_on<S: Source, K: Sink, C: sj_seat_run::Play>(
 
 /// Plays a party over a connection by what its code asks for, until there is a cause to stop. It
 /// begins with all that stands at the server, and so with code that wasn't asked yet. That code
-/// first gets the answers that the party got there.
-pub fn play_seat<S: Source + Drop, K: Sink + Drop, C: sj_seat_run::Play>(
+/// first gets the answers that the party got there. Live code is asked as long as it isn't over.
+pub fn play_seat<S: Source + Drop, K: Sink + Drop, C: Code>(
     alloc: Global,
     conn: &mut Conn<S, K>,
     accepted: &Accepted,
@@ -77,6 +90,7 @@ pub fn play_seat<S: Source + Drop, K: Sink + Drop, C: sj_seat_run::Play>(
         how.now.party o (K.written (sink_of conn.old)) (K.written (sink_of conn.new))) }
     ensures refused { IfErr result (IsRefused (file_of (file_in accepted.now)) how.now.run.now
         how.now.party (K.written (sink_of conn.old)) (K.written (sink_of conn.new))) }
+    ensures steps { Steps C.Code.step code.old code.new }
 {
     sign_in(alloc, conn, how.user, how.password)?;
     share(alloc, conn, accepted.file(), how.run)?;

@@ -4,6 +4,11 @@ use clap::{Arg, ArgAction, ArgMatches, Command, Error};
 use sj_base::NoMemory;
 use std::alloc::{AllocError, Global};
 
+/// An option with a value.
+fn option<'a>(alloc: Global, name: &'a str) -> Arg<'a> {
+    Arg::new(alloc, name).long(name).action(ArgAction::Set)
+}
+
 /// The line whole: the party and options.
 fn whole_line<'a>(alloc: Global) -> Result<Command<'a>, AllocError> {
     let line = Command::new(alloc, "sjseat")
@@ -16,14 +21,13 @@ fn whole_line<'a>(alloc: Global) -> Result<Command<'a>, AllocError> {
         .arg(
             Arg::new(alloc, "local")
                 .long("local")
-                .required(true)
                 .action(ArgAction::SetTrue),
         )?
-        .arg(
-            Arg::new(alloc, "patience")
-                .long("patience")
-                .action(ArgAction::Set),
-        )?;
+        .arg(option(alloc, "patience"))?
+        .arg(option(alloc, "run"))?
+        .arg(option(alloc, "server"))?
+        .arg(option(alloc, "wait"))?
+        .arg(option(alloc, "user"))?;
     Ok(line)
 }
 

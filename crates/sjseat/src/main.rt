@@ -1,10 +1,13 @@
 //! `sjseat`: a party of a file played by lines. `sjseat PARTY --local` plays it beside the others,
-//! which run on threads in the same process.
+//! which run on threads in the same process, `sjseat PARTY --run ID` over the streams of a server.
 #![tactic(auto)]
 
 mod line;
+mod remote;
+mod statuses;
 mod words;
 
+use remote::seat_remote;
 use sj_base::{NoMemory, ReadSource, WriteSink};
 use sj_seat_local::{NO_MEMORY, said, seat_local};
 use std::env;
@@ -14,7 +17,8 @@ use words::words_in;
 #[cfg(test)]
 mod tests;
 
-const USAGE: &[u8] = b"usage: sjseat PARTY --local [--patience N]\n";
+const USAGE: &[u8] =
+    b"usage: sjseat PARTY (--local | --run ID [--server HOST:PORT] [--wait SECONDS]) [--patience N]\n";
 
 /// The words after the program's name.
 fn own_words(rt: &HostRuntime) -> Result<Vec<String>, NoMemory> {
@@ -37,8 +41,12 @@ fn main(rt: HostRuntime) -> ExitCode {
         Ok(Some(words)) => {
             let src = ReadSource::new(rt.stdin());
             let party = words.party.as_bytes();
-            let played = seat_local(&rt, rt.alloc(), party, words.patience, src, out);
-            ExitCode::from(played.status)
+            let patience = words.patience;
+            let status = match &words.remote {
+                Some(remote) => seat_remote(&rt, &rt, party, patience, remote, src, out),
+                None => seat_local(&rt, rt.alloc(), party, patience, src, out).status,
+            };
+            ExitCode::from(status)
         }
         Ok(None) => ExitCode::from(said(&mut out, USAGE, 1)),
         Err(NoMemory) => ExitCode::from(NO_MEMORY),

@@ -5,6 +5,7 @@ use Rattle.sj_remote.specs.Conn.{sink_of}
 use Rattle.sj_remote.specs.Streams.{keys_of, seen_of}
 use Rattle.sj_seat.specs.Views.{node_of}
 use Rattle.sj_streams.specs.Words.{words_at}
+use Rattle.sj_remote_seat.specs.Steps.{Steps}
 use Rattle.sj_remote_seat.specs.Turns.{IsClear}
 use Rattle.sj_remote_seat.proofs.GoingLemmas.{Going}
 use Rattle.sj_remote_seat.proofs.play.go_on.Given as goal
@@ -16,4 +17,5 @@ invariant-loop g l = record {
       (get_or (seen_of l.streams) (party_of (node_of l.fn.seat)) 0) l.fn.seat l.going (g.K.Sink.written (sink_of l.fn.conn)) (g.K.Sink.written (sink_of l.conn));
   clear : IsClear l.going;
   keys : keys_of l.streams ≡ keys_of l.fn.streams;
+  steps : Steps g.C.Code.step l.fn.code l.code;
 }

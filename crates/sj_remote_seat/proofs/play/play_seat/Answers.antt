@@ -62,7 +62,7 @@ returns-clause-ok g c =
     let number : get_or seen party 0 ≡ length (entries_in own) = read.count (c.in_ok-streams.ensures.seen party ∙ ap entry_count (sym c.new-own.ensures.items)) ∙ ap entry_count (sym c.deref.ensures.value) in
     let seat = c.in_ok-seat.seat in
     let gone = subst (λ (f : File). HasGone (text_sent (file_of f) run keys (party_of (node_of seat))) (file_of f) (get_or seen (party_of (node_of seat)) 0) seat c.in_ok-outcome.outcome
-    (written (sink_of c.read_all.new.conn)) (written (sink_of c.go_on.new.conn))) c.file-3.ensures.value c.in_ok-outcome.ensures in
+    (written (sink_of c.read_all.new.conn)) (written (sink_of c.go_on.new.conn))) c.file-3.ensures.value c.in_ok-outcome.ensures.gone in
     is_played file run keys seen party (entries_in own) c.in_ok-first.first c.in_ok-seat.seat c.in_ok-outcome.outcome user password read.sent.0 (written (sink_of c.args.conn.now)) (written (sink_of c.read_all.new.conn))
     (written (sink_of c.go_on.new.conn)) c.in_ok-first.ensures.begins c.in_ok-seat.ensures.again number named wrote gone
 
