@@ -143,8 +143,10 @@ pub(crate) fn seat_remote<R: Threads + Sync, S: Source + Drop, K: Sink + Drop>(
         Ok(Before::NoTalk) => return said(&mut out, b"talk L1 at 0\n", 12),
         Err(NoMemory) => return NO_MEMORY,
     };
-    let Some(accepted) = accepted(alloc, &bytes) else {
-        return checked(threads, alloc, bytes, &mut out);
+    let accepted = match accepted(alloc, &bytes) {
+        Ok(Some(accepted)) => accepted,
+        Ok(None) => return checked(threads, alloc, bytes, &mut out),
+        Err(NoMemory) => return NO_MEMORY,
     };
     let Some(party) = party_named(accepted.file(), word) else {
         return said_no_party(alloc, word, &mut out);
