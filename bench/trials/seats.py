@@ -117,7 +117,7 @@ def is_answered(got, lines):
         return False
     matches = [SAID.fullmatch(line) for line in said[:count]]
     last = LAST.fullmatch(said[count])
-    return last is not None and last[2] == VERDICTS.get(status, NONE) and all(it and it[1] in (None, b"%d" % (at + 1)) for at, it in enumerate(matches))
+    return last is not None and last[2] == VERDICTS.get(status) and all(it and it[1] in (None, b"%d" % (at + 1)) for at, it in enumerate(matches))
 
 
 def one(number, tally):
