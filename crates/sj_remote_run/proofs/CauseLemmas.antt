@@ -5,10 +5,11 @@ use Rattle.sj_base.specs.Stream.{Rose}
 use Rattle.sj_remote.specs.Conn.{sink_of}
 use Rattle.sj_remote.specs.Talks.{IsAnswer}
 use Rattle.sj_remote.specs.declared.conn.Conn.{Conn}
+use Rattle.sj_resp.specs.Token.{TokenAt}
 use Rattle.sj_streams.specs.Reading.{CameAt}
 use Rattle.sj_streams.specs.Views.{came_view}
 use Rattle.sj_streams.specs.declared.replies.Came.{Came}
-use Rattle.sj_remote_run.specs.Asked.{IsCause, IsInPlay, IsInside, IsOfFile, IsOfStreams, IsUntaken, StopsAt, Talked}
+use Rattle.sj_remote_run.specs.Asked.{IsCause, IsPlayCause, IsInPlay, IsInside, IsOfFile, IsOfStreams, IsUntaken, StopsAt, Talked}
 use Rattle.sj_remote_run.specs.Refused.{HasOwn, IsNoAnswer, IsUnanswered, QuestionAt, ToAdd, ToGet, ToRead, ToShare, ToSign}
 use Rattle.sj_remote_run.specs.declared.refusal.PlayRefusal.{PlayRefusal}
 use Rattle.sj_remote_run.specs.declared.refusal.PlayRefusal.TheVariants as plays
@@ -63,6 +64,14 @@ module _ (signs : ℕ) (text : List ℕ) (keys : List (List ℕ)) (party : ℕ) 
   play_then n long ks p same who ToAdd k is = omega (arith, long)
   play_then n long ks p same who (ToRead these seen own) k is = (is.0 ∙ same, is.1 ∙ who, omega (arith, long))
 
+-- no answer of the server says that a frame fits no row
+fits : (q : QuestionAt) (tokens : List TokenAt) → IsNoAnswer q plays.Unfit tokens → ⊥
+fits ToSign tokens is = is
+fits ToShare tokens is = is
+fits (ToGet text) tokens is = is
+fits ToAdd tokens is = is
+fits (ToRead keys seen party) tokens is = is
+
 module _ {S K : Type 0} (left : S → Option (List ℕ)) (faults : S → ℕ) (has_ended : S → Type 0) (unwritten : K → ℕ) where
   module _ (IsNext : QuestionAt → ℕ → Type 0) where
     -- what is no answer of the server says nothing
@@ -74,7 +83,7 @@ module _ {S K : Type 0} (left : S → Option (List ℕ)) (faults : S → ℕ) (h
     inside_cause a c plays.Server is = absurd is
     inside_cause a c plays.NoReply is = absurd is
     inside_cause a c plays.NoFrame is = tt
-    inside_cause a c plays.Unfit is = tt
+    inside_cause a c plays.Unfit is = absurd is
     inside_cause a c plays.LogFault is = tt
     inside_cause a c plays.TooLong is = tt
     inside_cause a c plays.Lost is = absurd is
@@ -93,7 +102,7 @@ module _ {S K : Type 0} (left : S → Option (List ℕ)) (faults : S → ℕ) (h
       unanswered_cause q next plays.Server why = stop q next plays.Server why
       unanswered_cause q next plays.NoReply why = stop q next plays.NoReply why
       unanswered_cause q next plays.NoFrame why = tt
-      unanswered_cause q next plays.Unfit why = tt
+      unanswered_cause q next plays.Unfit why = absurd (fits q why.tokens why.means)
       unanswered_cause q next plays.LogFault why = tt
       unanswered_cause q next plays.TooLong why = tt
       unanswered_cause q next plays.Lost why = stop q next plays.Lost why
@@ -114,7 +123,7 @@ module _ {S K : Type 0} (left : S → Option (List ℕ)) (faults : S → ℕ) (h
       untaken_cause keys seen party came next answer plays.Server is = absurd is
       untaken_cause keys seen party came next answer plays.NoReply is = absurd is
       untaken_cause keys seen party came next answer plays.NoFrame is = tt
-      untaken_cause keys seen party came next answer plays.Unfit is = tt
+      untaken_cause keys seen party came next answer plays.Unfit is = absurd is
       untaken_cause keys seen party came next answer plays.LogFault is = tt
       untaken_cause keys seen party came next answer plays.TooLong is = tt
       untaken_cause keys seen party came next answer plays.Lost is = absurd is
@@ -140,8 +149,24 @@ module _ {S K : Type 0} (left : S → Option (List ℕ)) (faults : S → ℕ) (h
     cause_later plays.Server s = later plays.Server s
     cause_later plays.NoReply s = later plays.NoReply s
     cause_later plays.NoFrame s = tt
-    cause_later plays.Unfit s = tt
+    cause_later plays.Unfit s = s
     cause_later plays.LogFault s = tt
     cause_later plays.TooLong s = tt
     cause_later plays.Lost s = later plays.Lost s
     cause_later plays.NoMemory s = tt
+
+  -- the same of a party that is played
+  module _ (IsNext : QuestionAt → ℕ → Type 0) (Stuck : Type 0) (a c : Conn S K) where
+    pub cause_play : (e : PlayRefusal) → IsCause left faults has_ended unwritten IsNext a c e → IsPlayCause left faults has_ended unwritten IsNext Stuck a c e
+    cause_play plays.NoServer s = s
+    cause_play plays.Password s = s
+    cause_play plays.OtherFile s = s
+    cause_play plays.Overtaken s = s
+    cause_play plays.Server s = s
+    cause_play plays.NoReply s = s
+    cause_play plays.NoFrame s = s
+    cause_play plays.Unfit s = absurd s
+    cause_play plays.LogFault s = s
+    cause_play plays.TooLong s = s
+    cause_play plays.Lost s = s
+    cause_play plays.NoMemory s = s

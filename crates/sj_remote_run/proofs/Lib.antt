@@ -6,6 +6,7 @@ pub mod PlayedLemmas
 pub mod PostLemmas
 pub mod RefusedLemmas
 pub mod SentLemmas
+pub mod StuckLemmas
 pub mod TalkedLemmas
 pub mod TurnLemmas
 pub mod WordLemmas

@@ -37,19 +37,24 @@ module _ {S K : Type 0} (left : S → Option (List ℕ)) (faults : S → ℕ) (h
     pub next : IsNext question count
     pub why : IsUnanswered left faults has_ended unwritten mid new (IsNoAnswer question) e
 
-  -- the cause of each refusal; of those that are no answer of the server nothing is said here
+  -- the cause of each refusal of what is asked. Of those that are no answer of the server nothing is said, but that no frame is without a row here
   abbrev pub IsCause : (old new : Conn S K) → PlayRefusal → Type 0
   IsCause old new plays.NoFrame = ⊤
-  IsCause old new plays.Unfit = ⊤
+  IsCause old new plays.Unfit = ⊥
   IsCause old new plays.LogFault = ⊤
   IsCause old new plays.TooLong = ⊤
   IsCause old new plays.NoMemory = ⊤
   IsCause old new e = StopsAt e old new
 
--- the refusals that are no answer of the server
+  -- the same of a party that is played, which may come to a frame that fits no row
+  abbrev pub IsPlayCause : (IsStuck : Type 0) → (old new : Conn S K) → PlayRefusal → Type 0
+  IsPlayCause IsStuck old new plays.Unfit = IsStuck
+  IsPlayCause IsStuck old new e = IsCause old new e
+
+-- the refusals that are no answer of the server, but for a frame that fits no row, which a worker alone meets
 abbrev pub IsInside : PlayRefusal → Type 0
 IsInside plays.NoFrame = ⊤
-IsInside plays.Unfit = ⊤
+IsInside plays.Unfit = ⊥
 IsInside plays.LogFault = ⊤
 IsInside plays.TooLong = ⊤
 IsInside plays.NoMemory = ⊤

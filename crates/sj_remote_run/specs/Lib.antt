@@ -9,3 +9,4 @@ pub mod Batches
 pub mod Caught
 pub mod Sent
 pub mod Played
+pub mod Stuck

@@ -7,10 +7,11 @@ ghost use Rattle.sj_node.specs.Reading.{party_of};
 ghost use Rattle.sj_remote.specs.Conn.{sink_of};
 ghost use Rattle.sj_party.specs.CanonicalFile.{file_text};
 ghost use Rattle.sj_remote.specs.Streams.{keys_of, log_keys, seen_of};
-ghost use Rattle.sj_remote_run.specs.Asked.{IsCause, IsInPlay, IsOfStreams, sign_count};
+ghost use Rattle.sj_remote_run.specs.Asked.{IsInPlay, IsOfStreams, IsPlayCause, sign_count};
 ghost use Rattle.sj_remote_run.specs.Played.{GoesOn, IsPlayed};
 ghost use Rattle.sj_remote_run.specs.Posts.{HasNone};
 ghost use Rattle.sj_remote_run.specs.Sent.{text_sent};
+ghost use Rattle.sj_remote_run.specs.Stuck.{IsStuckAt, StuckOn};
 ghost use Rattle.sj_remote_run.specs.Turns.{node_in, outs_in};
 ghost use Rattle.sj_streams.specs.Words.{words_at};
 
@@ -53,8 +54,9 @@ fn go_on<S: Source, K: Sink>(
         (words_at (keys_of streams.old)) (party_of (node_in player)))
         (get_or (seen_of streams.old) (party_of (node_in player)) 0) (node_in player) o
         (K.written (sink_of conn.old)) (K.written (sink_of conn.new))) }
-    ensures refused { IfErr result (IsCause S.left S.faults S.has_ended K.faults
+    ensures refused { IfErr result (IsPlayCause S.left S.faults S.has_ended K.faults
         (IsOfStreams (words_at (keys_of streams.old)) (party_of (node_in player)))
+        (StuckOn (get_or (seen_of streams.old) (party_of (node_in player)) 0) (node_in player))
         conn.old conn.new) }
 {
     let file = accepted.file();
@@ -85,10 +87,11 @@ pub fn play_party<S: Source + Drop, K: Sink + Drop>(
     requires { how.now.party < length (file_of (file_in accepted.now)).parties }
     ensures played { IfOk result (λ o. IsPlayed (file_of (file_in accepted.now)) how.now.run.now
         how.now.party o (K.written (sink_of conn.old)) (K.written (sink_of conn.new))) }
-    ensures refused { IfErr result (IsCause S.left S.faults S.has_ended K.faults
+    ensures refused { IfErr result (IsPlayCause S.left S.faults S.has_ended K.faults
         (IsInPlay (sign_count how.now.password) (file_text (file_of (file_in accepted.now)))
         (log_keys how.now.run.now (length (file_of (file_in accepted.now)).parties))
-        how.now.party) conn.old conn.new) }
+        how.now.party) (IsStuckAt (file_of (file_in accepted.now)) how.now.party)
+        conn.old conn.new) }
 {
     sign_in(alloc, conn, how.user, how.password)?;
     share(alloc, conn, accepted.file(), how.run)?;

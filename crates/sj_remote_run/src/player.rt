@@ -1,6 +1,6 @@
 //! A party that is played, and all that it can do before it must wait.
 ghost use Rattle.std.specs.Prelude.{◌≡◌, IfErr, IfOk};
-ghost use Rattle.sj_remote_run.specs.Asked.{IsInside};
+ghost use Rattle.sj_remote_run.specs.Stuck.{IsStuck};
 ghost use Rattle.sj_remote_run.specs.Turns.{Goes, outcome_by};
 
 use crate::causes::spell_means;
@@ -23,7 +23,6 @@ pub struct Player {
 /// How a party stands that can't go on by itself, where none of its causes is a refusal.
 pub fn stands(stop: Stop, finished: bool) -> Result<Outcome, PlayRefusal>
     ensures outcome { result ≡ outcome_by stop finished }
-    ensures refused { IfErr result IsInside }
 {
     match stop {
         Stop::Finished | Stop::Idle if finished => Ok(Outcome::Ended),
@@ -39,7 +38,7 @@ impl Player {
     /// All that the party can do before it must wait. Answers how it stands, and what it noted.
     pub(crate) fn go(self, alloc: Global) -> Result<(Player, Outcome, Vec<Entry>), PlayRefusal>
         ensures goes { IfOk result (λ r. Goes self r.0 r.1 r.2.items) }
-        ensures refused { IfErr result IsInside }
+        ensures refused { IfErr result (IsStuck self) }
     {
         let mut worker = Worker::new(self.node, self.lanes);
         let stop = match batches(alloc, &mut worker, &NoGate) {

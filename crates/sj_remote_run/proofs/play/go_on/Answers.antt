@@ -9,12 +9,14 @@ use Rattle.sj_node.specs.declared.node.Node.{Node}
 use Rattle.sj_remote.specs.Conn.{sink_of}
 use Rattle.sj_remote.specs.Streams.{keys_of, seen_of}
 use Rattle.sj_streams.specs.Words.{words_at}
-use Rattle.sj_remote_run.specs.Asked.{IsCause, IsOfStreams}
+use Rattle.sj_remote_run.specs.Asked.{IsOfStreams, IsPlayCause}
 use Rattle.sj_remote_run.specs.Posts.{HandsOver, HasNone}
 use Rattle.sj_remote_run.specs.Sent.{text_sent}
+use Rattle.sj_remote_run.specs.Stuck.{StuckOn}
 use Rattle.sj_remote_run.specs.Turns.{added_count, node_in, outs_in}
 use Rattle.sj_remote_run.proofs.GoesLemmas.{goes_ended, goes_none, goes_party}
-use Rattle.sj_remote_run.proofs.CauseLemmas.{cause_later, err_as, inside_cause, streams_then}
+use Rattle.sj_remote_run.proofs.CauseLemmas.{cause_later, cause_play, err_as, streams_then}
+use Rattle.sj_remote_run.proofs.StuckLemmas.{stuck_cause}
 use Rattle.sj_remote_run.proofs.TalkedLemmas.{talks_both, talks_none}
 use Rattle.sj_remote_run.proofs.TurnLemmas.{going_none, going_same, same_batch, same_number, same_turn, turn_adds, turn_asks}
 use Rattle.sj_remote_run.proofs.play.go_on.Goals as goal
@@ -130,9 +132,20 @@ returns-in_err-next-clause-refused g c =
     let has_ended = g.S.Source.has_ended in
     let unwritten = g.K.Sink.faults in
     let next = IsOfStreams (words_at (keys_of c.args.streams.now)) (party_of (node_in c.args.player)) in
+    let stuck = StuckOn (get_or (seen_of c.args.streams.now) (party_of (node_in c.args.player)) 0) (node_in c.args.player) in
     let a = c.args.conn.now in
     let e = c.in_err-next.field-0.0 in
-    err_as _ e (IsCause left faults has_ended unwritten next a c.loop.conn) c.from_residual.ensures.1 (inside_cause left faults has_ended unwritten next a c.loop.conn e c.in_err-next.ensures.refused)
+    let going = c.loop.invariant.going in
+    err_as _ e (IsPlayCause left faults has_ended unwritten next stuck a c.loop.conn) c.from_residual.ensures.1
+    (stuck_cause left faults has_ended unwritten next stuck c.loop.player a c.loop.conn e c.in_err-next.ensures.refused (λ stops. record {
+      commands = going.commands;
+      end = get_or (seen_of c.loop.streams) (party_of (node_in c.args.player)) 0;
+      player = c.loop.player;
+      sent = going.sent;
+      play = going.play;
+      party_stays = going.party;
+      stuck = stops;
+    }))
 
 pub returns-in_err-add-clause-refused : goal.returns-in_err-add-clause-refused
 returns-in_err-add-clause-refused g c =
@@ -145,13 +158,14 @@ returns-in_err-add-clause-refused g c =
     let party = party_of (node_in c.args.player) in
     let next = c.in_ok-next.next in
     let same : party_of (node_in next) ≡ party = goes_party c.loop.player next c.in_ok-next.outcome c.in_ok-next.noted.items c.in_ok-next.ensures.goes ∙ c.loop.invariant.going.party in
+    let stuck = StuckOn (get_or (seen_of c.args.streams.now) (party_of (node_in c.args.player)) 0) (node_in c.args.player) in
     let a = c.args.conn.now in
     let b = c.loop.conn in
     let t = c.loop.invariant.talked in
     let e = c.in_err-add.field-0.0 in
-    err_as _ e (IsCause left faults has_ended unwritten (IsOfStreams keys party) a c.add.new.conn) c.from_residual-in_err-add.ensures.1
-    (cause_later left faults has_ended unwritten (IsOfStreams here (party_of (node_in next))) (IsOfStreams keys party) t.0 a b c.add.new.conn t.1
-    (streams_then t.0 here keys (party_of (node_in next)) party (ap words_at c.loop.invariant.keys) same) e c.in_err-add.ensures.refused)
+    err_as _ e (IsPlayCause left faults has_ended unwritten (IsOfStreams keys party) stuck a c.add.new.conn) c.from_residual-in_err-add.ensures.1
+    (cause_play left faults has_ended unwritten (IsOfStreams keys party) stuck a c.add.new.conn e (cause_later left faults has_ended unwritten (IsOfStreams here (party_of (node_in next))) (IsOfStreams keys party) t.0 a b c.add.new.conn t.1
+    (streams_then t.0 here keys (party_of (node_in next)) party (ap words_at c.loop.invariant.keys) same) e c.in_err-add.ensures.refused))
 
 pub returns-in_err-exchange-clause-refused : goal.returns-in_err-exchange-clause-refused
 returns-in_err-exchange-clause-refused g c =
@@ -164,10 +178,11 @@ returns-in_err-exchange-clause-refused g c =
     let party = party_of (node_in c.args.player) in
     let next = c.in_ok-next.next in
     let same : party_of (node_in next) ≡ party = goes_party c.loop.player next c.in_ok-next.outcome c.in_ok-next.noted.items c.in_ok-next.ensures.goes ∙ c.loop.invariant.going.party in
+    let stuck = StuckOn (get_or (seen_of c.args.streams.now) (party_of (node_in c.args.player)) 0) (node_in c.args.player) in
     let a = c.args.conn.now in
     let b = c.loop.conn in
     let t = c.loop.invariant.talked in
     let e = c.in_err-exchange.field-0.0 in
-    err_as _ e (IsCause left faults has_ended unwritten (IsOfStreams keys party) a c.exchange.new.conn) c.from_residual-in_err-exchange.ensures.1
-    (cause_later left faults has_ended unwritten (IsOfStreams here (party_of (node_in next))) (IsOfStreams keys party) t.0 a b c.exchange.new.conn t.1
-    (streams_then t.0 here keys (party_of (node_in next)) party (ap words_at c.loop.invariant.keys) same) e c.in_err-exchange.ensures.refused)
+    err_as _ e (IsPlayCause left faults has_ended unwritten (IsOfStreams keys party) stuck a c.exchange.new.conn) c.from_residual-in_err-exchange.ensures.1
+    (cause_play left faults has_ended unwritten (IsOfStreams keys party) stuck a c.exchange.new.conn e (cause_later left faults has_ended unwritten (IsOfStreams here (party_of (node_in next))) (IsOfStreams keys party) t.0 a b c.exchange.new.conn t.1
+    (streams_then t.0 here keys (party_of (node_in next)) party (ap words_at c.loop.invariant.keys) same) e c.in_err-exchange.ensures.refused))

@@ -1,4 +1,4 @@
-use Rattle.std.proofs.Common.{◌≡◌, ◌+◌, ◌++◌, get_or, length, vec_len, arith, refl, sym, ap, ◌∙◌}
+use Rattle.std.proofs.Common.{◌≡◌, ℕ, ◌+◌, ◌++◌, get_or, length, vec_len, arith, refl, sym, ap, subst, ◌∙◌}
 use Rattle.std.proofs.lemmas.List.{length-map}
 use Rattle.sj_base.specs.Stream.{put_behind}
 use Rattle.sj_check.specs.Held.{file_in}
@@ -11,11 +11,13 @@ use Rattle.sj_remote.specs.Streams.{keys_of, log_keys, seen_of}
 use Rattle.sj_resp.specs.Spelling.{command_text}
 use Rattle.sj_streams.specs.Commands.{get_words, share_words}
 use Rattle.sj_streams.specs.Words.{words_at}
-use Rattle.sj_remote_run.specs.Asked.{IsCause, IsInPlay, IsOfFile, IsOfStreams, sign_count}
+use Rattle.sj_remote_run.specs.Asked.{IsPlayCause, IsInPlay, IsOfFile, IsOfStreams, sign_count}
 use Rattle.sj_remote_run.specs.Caught.{reads_text}
 use Rattle.sj_remote_run.specs.Refused.{ToSign}
+use Rattle.sj_remote_run.specs.Stuck.{IsStuckAt, StuckOn}
+use Rattle.sj_remote_run.proofs.StuckLemmas.{play_later}
 use Rattle.sj_remote_run.proofs.CaughtLemmas.{is_again}
-use Rattle.sj_remote_run.proofs.CauseLemmas.{cause_later, err_as, file_then, play_then, unanswered_cause}
+use Rattle.sj_remote_run.proofs.CauseLemmas.{cause_later, cause_play, err_as, file_then, play_then, unanswered_cause}
 use Rattle.sj_remote_run.proofs.PlayedLemmas.{goes_named, goes_whole}
 use Rattle.sj_remote_run.proofs.TalkedLemmas.{talked_both, talked_here}
 use Rattle.sj_remote_run.proofs.play.play_party.Goals as goal
@@ -68,10 +70,11 @@ returns-in_err-sign_in-clause-refused g c =
     let text = file_text file in
     let all = log_keys run (length file.parties) in
     let next = IsInPlay signs text all party in
+    let stuck = IsStuckAt file party in
     let a = c.args.conn.now in
     let e = c.in_err-sign_in.field-0.0 in
-    err_as _ e (IsCause left faults has_ended unwritten next a c.sign_in.new.conn) c.from_residual.ensures.1
-    (unanswered_cause left faults has_ended unwritten next 0 a a c.sign_in.new.conn (talked_here left faults unwritten a) ToSign (c.in_err-sign_in.ensures.given, refl) e c.in_err-sign_in.ensures.refused)
+    err_as _ e (IsPlayCause left faults has_ended unwritten next stuck a c.sign_in.new.conn) c.from_residual.ensures.1
+    (cause_play left faults has_ended unwritten next stuck a c.sign_in.new.conn e (unanswered_cause left faults has_ended unwritten next 0 a a c.sign_in.new.conn (talked_here left faults unwritten a) ToSign (c.in_err-sign_in.ensures.given, refl) e c.in_err-sign_in.ensures.refused))
 
 pub returns-in_err-share-clause-refused : goal.returns-in_err-share-clause-refused
 returns-in_err-share-clause-refused g c =
@@ -86,13 +89,14 @@ returns-in_err-share-clause-refused g c =
     let text = file_text file in
     let all = log_keys run (length file.parties) in
     let next = IsInPlay signs text all party in
+    let stuck = IsStuckAt file party in
     let a = c.args.conn.now in
     let own = file_text (file_of c.file.result.now) in
     let same : own ≡ text = ap (λ f. file_text (file_of f)) c.file.ensures.value in
     let e = c.in_err-share.field-0.0 in
-    err_as _ e (IsCause left faults has_ended unwritten next a c.share.new.conn) c.from_residual-in_err-share.ensures.1
-    (cause_later left faults has_ended unwritten (IsOfFile own) next signs a c.sign_in.new.conn c.share.new.conn c.in_ok-sign_in.ensures.talked (file_then signs text all party own same) e
-    c.in_err-share.ensures.refused)
+    err_as _ e (IsPlayCause left faults has_ended unwritten next stuck a c.share.new.conn) c.from_residual-in_err-share.ensures.1
+    (cause_play left faults has_ended unwritten next stuck a c.share.new.conn e (cause_later left faults has_ended unwritten (IsOfFile own) next signs a c.sign_in.new.conn c.share.new.conn c.in_ok-sign_in.ensures.talked (file_then signs text all party own same) e
+    c.in_err-share.ensures.refused))
 
 pub returns-in_err-node-clause-refused : goal.returns-in_err-node-clause-refused
 returns-in_err-node-clause-refused g c =
@@ -107,6 +111,7 @@ returns-in_err-node-clause-refused g c =
     let text = file_text file in
     let all = log_keys run (length file.parties) in
     let next = IsInPlay signs text all party in
+    let stuck = IsStuckAt file party in
     let a = c.args.conn.now in
     let parties = c.file-2.result.now.parties in
     let held : vec_len parties ≡ length parties.items = omega (arith, parties.ok) in
@@ -116,9 +121,9 @@ returns-in_err-node-clause-refused g c =
     let keys = words_at (keys_of c.in_ok-streams.streams) in
     let same : keys ≡ all = c.in_ok-streams.ensures.keys ∙ ap (log_keys run) count in
     let e = c.in_err-node.field-0.0 in
-    err_as _ e (IsCause left faults has_ended unwritten next a c.catch_up.new.conn) c.from_residual-in_err-node.ensures.1
-    (cause_later left faults has_ended unwritten (IsOfStreams keys party) next (signs + 2) a c.share.new.conn c.catch_up.new.conn shared
-    (play_then signs text all party (signs + 2) (omega arith) keys party same refl) e c.in_err-node.ensures.refused)
+    err_as _ e (IsPlayCause left faults has_ended unwritten next stuck a c.catch_up.new.conn) c.from_residual-in_err-node.ensures.1
+    (cause_play left faults has_ended unwritten next stuck a c.catch_up.new.conn e (cause_later left faults has_ended unwritten (IsOfStreams keys party) next (signs + 2) a c.share.new.conn c.catch_up.new.conn shared
+    (play_then signs text all party (signs + 2) (omega arith) keys party same refl) e c.in_err-node.ensures.refused))
 
 pub returns-in_err-outcome-clause-refused : goal.returns-in_err-outcome-clause-refused
 returns-in_err-outcome-clause-refused g c =
@@ -133,6 +138,7 @@ returns-in_err-outcome-clause-refused g c =
     let text = file_text file in
     let all = log_keys run (length file.parties) in
     let next = IsInPlay signs text all party in
+    let stuck = IsStuckAt file party in
     let a = c.args.conn.now in
     let parties = c.file-2.result.now.parties in
     let held : vec_len parties ≡ length parties.items = omega (arith, parties.ok) in
@@ -149,6 +155,13 @@ returns-in_err-outcome-clause-refused g c =
     let n = signs + 2 + caught.0 in
     let came = talked_both left faults unwritten (signs + 2) caught.0 a c.share.new.conn c.catch_up.new.conn shared caught.1 in
     let e = c.in_err-outcome.field-0.0 in
-    err_as _ e (IsCause left faults has_ended unwritten next a c.go_on.new.conn) c.from_residual-in_err-outcome.ensures.1
+    err_as _ e (IsPlayCause left faults has_ended unwritten next stuck a c.go_on.new.conn) c.from_residual-in_err-outcome.ensures.1
+    (play_later left faults has_ended unwritten (IsOfStreams keys (party_of node)) next (StuckOn (get_or seen (party_of node) 0) node) stuck a c.catch_up.new.conn c.go_on.new.conn e c.in_err-outcome.ensures.refused
     (cause_later left faults has_ended unwritten (IsOfStreams keys (party_of node)) next n a c.catch_up.new.conn c.go_on.new.conn came
-    (play_then signs text all party n (omega arith) keys (party_of node) same named) e c.in_err-outcome.ensures.refused)
+    (play_then signs text all party n (omega arith) keys (party_of node) same named))
+    (λ s. record {
+      again = again.0;
+      old = node;
+      redone = again.2;
+      stuck = subst (λ (k : ℕ). StuckOn k node) (ap (λ (p : ℕ). get_or seen p 0) named ∙ again.1) s;
+    }))
