@@ -104,7 +104,7 @@ note_told n (Accept q m) e opens =
     let h = is_first n q e opens in
     ap (λ o. note_seen (accepted_note q o)) h.least ∙ ap (λ (d : EndId). logs.Accept d.sess q) (sym h.end)
 
-end_told : (n : Node) (wish : OpenWish) (e : EndId) → Opens n wish e → e ≡ opening_end wish e.sess
+pub end_told : (n : Node) (wish : OpenWish) (e : EndId) → Opens n wish e → e ≡ opening_end wish e.sess
 end_told n (Request q m) e opens = opens ∙ ap (λ (d : EndId). requested_end d.sess) (sym opens)
 end_told n (Accept q m) e opens = let h = is_first n q e opens in h.end ∙ ap (λ (d : EndId). offered_end d.sess) (sym h.end)
 

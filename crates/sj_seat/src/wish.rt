@@ -26,9 +26,10 @@ pub enum OpenWish {
     Accept { party: u16, protocol: u16 },
 }
 
-/// A session that a builder's code opened, by its number, and the protocol as which it did.
+/// A session that a builder's code opened, by its own end of it, and the protocol as which it did. A
+/// session of a party with itself is opened twice, once at each end.
 #[derive(Clone, Copy, Debug, PartialEq, Eq)]
 pub struct OpenedSession {
-    pub sess: u32,
+    pub end: EndId,
     pub protocol: u16,
 }

@@ -1,5 +1,6 @@
 //! A log, done again with seats.
 ghost use Rattle.std.specs.Prelude.{◌≡◌, ◌≤◌, ℕ, IfErr, IfOk, length, map, max};
+ghost use Rattle.sj_base.specs.declared.EndId.{EndId};
 ghost use Rattle.sj_check.specs.Held.{file_in};
 ghost use Rattle.sj_end.specs.Lines.{line_at};
 ghost use Rattle.sj_lang.specs.FileAt.{body_named};
@@ -79,7 +80,7 @@ pub fn replay_seated(
     ensures kept { IfOk result (λ w. kept_file w ≡ without_words (file_of (file_in accepted.now))) }
     ensures spells { IfOk result (λ w. SpellsLog version (file_of (file_in accepted.now)) log.now (history_of w)) }
     ensures seats { IfOk result (λ w. (q : ℕ) → seats_of w q ≡ seat_in seats.now q) }
-    ensures opened { IfOk result (λ w. (q sess : ℕ) → opened_of w q sess ≡ opened_by opened.items q sess) }
+    ensures opened { IfOk result (λ w. (q : ℕ) (e : EndId) → opened_of w q e ≡ opened_by opened.items q e) }
 
     // What is true of every world.
     ensures run { IfOk result (λ w. IsSeatsHistory max (kept_file w) (callers_of w) (history_of w) (core_of w)) }

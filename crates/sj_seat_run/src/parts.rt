@@ -66,10 +66,9 @@ fn work_beside<O: OutLane, I: InLane, G: Gate>(
 
 /// The session of that end, as the code opened it.
 fn opened_as(wish: OpenWish, end: EndId) -> OpenedSession {
-    let sess = end.sess;
     match wish {
-        OpenWish::Request { protocol, .. } => OpenedSession { sess, protocol },
-        OpenWish::Accept { protocol, .. } => OpenedSession { sess, protocol },
+        OpenWish::Request { protocol, .. } => OpenedSession { end, protocol },
+        OpenWish::Accept { protocol, .. } => OpenedSession { end, protocol },
     }
 }
 

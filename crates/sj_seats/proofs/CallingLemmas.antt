@@ -31,7 +31,7 @@ use Rattle.sj_table.specs.declared.table.Table.{Table}
 use Rattle.sj_seats.specs.Calling.{Calls}
 use Rattle.sj_seats.specs.Core.{seat_by}
 use Rattle.sj_seats.specs.declared.played.Chair.{Chair}
-use Rattle.sj_seats.specs.Calls.{session_in}
+use Rattle.sj_seats.specs.Calls.{end_in}
 use Rattle.sj_seats.proofs.MakingLemmas.{Makes, StepsTo}
 
 -- ---- of a call
@@ -95,7 +95,7 @@ want_is t n (Take e spot) over = ap (λ (u : Table). wanted.takes e (place_in u 
 want_is t n (Close e) over = refl
 
 -- the call that was guarded and done is made
-pub call_makes : (t : Table) (opened : ℕ → ℕ) (old new : Node) (before after : Chair) (call : Call) (e : Entry) → old.table ≡ t → Calls t old before call e new after → Makes t opened old before call e new after
+pub call_makes : (t : Table) (opened : EndId → ℕ) (old new : Node) (before after : Chair) (call : Call) (e : Entry) → old.table ≡ t → Calls t old before call e new after → Makes t opened old before call e new after
 call_makes t opened old new before after call e over x =
     let os = openings_at t before.may in
     let bs = ends_at t before.ends.items in
@@ -107,7 +107,7 @@ call_makes t opened old new before after call e over x =
       did = x.called.did;
       took = x.took;
       entry = x.entry;
-      tells = tells t os bs before.calls old (opened (session_in (note_seen note))) x.done x.guarded x.heads;
+      tells = tells t os bs before.calls old (opened (end_in (note_seen note))) x.done x.guarded x.heads;
       steps = λ file p parties party rest.
           let s : SeatedAt = seat_by t (asked x.done ∷ rest) before in
           let then_is : called s (head_taken old x.done) ≡ seat_by t rest after = λ i. record { ends = sym x.ends i; steps = sym x.calls i; calls = rest; may = openings_at t (sym x.may i) } in

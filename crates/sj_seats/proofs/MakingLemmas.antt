@@ -4,6 +4,7 @@ use Rattle.std.specs.Prelude.{is_some}
 use Rattle.std.proofs.Math.ListN.{set}
 use Rattle.std.proofs.lemmas.List.{length-set}
 use Rattle.std.proofs.lemmas.Option.{slice_get_within}
+use Rattle.sj_base.specs.declared.EndId.{EndId}
 use Rattle.sj_core.proofs.NodesLemmas.{same_eqb, seen_after, still_seated}
 use Rattle.sj_core.proofs.TakenLemmas.{DidUnlogged, did_unlogged, entry_is}
 use Rattle.sj_core.specs.Nodes.{AreSeated, IsSeated, box_or, node_or, world_by}
@@ -33,7 +34,7 @@ use Rattle.sj_seat_laws.specs.SeatRows.{call_told, with_player, worked_player}
 use Rattle.sj_seat_laws.specs.SeatsWorld.{player_by}
 use Rattle.sj_semantics.specs.Program.{Program}
 use Rattle.sj_table.specs.declared.table.Table.{Table}
-use Rattle.sj_seats.specs.Calls.{call_of_event, calls_in, first_calls, one_call, session_in}
+use Rattle.sj_seats.specs.Calls.{call_of_event, calls_in, first_calls, one_call, end_in}
 use Rattle.sj_seats.specs.Core.{AreOver, chair_of, core_by, is_seat, played, seat_by, seats_by}
 use Rattle.sj_seats.specs.Played.{HasParties, Redoes, chairs_in, core_in, file_in, nodes_in, opened_in}
 use Rattle.sj_seats.specs.declared.played.Chair.{Chair}
@@ -47,14 +48,14 @@ StepsTo file p s old note left u =
     Steps (seated_play file) max p (with_player (seated s) (node_at old)) (act_step (clock_of old + 1) note left.posts) (with_player (seated u) (record left.state { clock = clock_of old + 1 }))
 
 -- the node did the step of the call, whose note tells it, and its entry was taken out of the log
-pub record Makes (t : Table) (opened : ℕ → ℕ) (old : Node) (before : Chair) (call : Call) (e : Entry) (new : Node) (after : Chair) : Type 0 where
+pub record Makes (t : Table) (opened : EndId → ℕ) (old : Node) (before : Chair) (call : Call) (e : Entry) (new : Node) (after : Chair) : Type 0 where
   pub mid : Node
   pub left : Worked Place (NodeAt Place Program)
   pub note : Note
   pub did : Did old left (clock_of old + 1) events.Act note mid
   pub took : TakesEntry mid new
   pub entry : log_of mid ≡ log_of new ++ e ∷ []
-  pub tells : call_told (opened (session_in (note_seen note))) (note_seen note) ≡ Some call
+  pub tells : call_told (opened (end_in (note_seen note))) (note_seen note) ≡ Some call
   pub steps : (file : FileAt) (p : ℕ) → parties_of old ≡ length file.parties → party_of old ≡ p → (rest : List Call)
       → StepsTo file p (seat_by t (call ∷ rest) before) old (note_seen note) left (seat_by t rest after)
 

@@ -23,16 +23,16 @@ use Rattle.sj_table.specs.declared.table.Table.{Table}
 use Rattle.sj_seats.specs.Core.{seat_by}
 use Rattle.sj_seats.specs.declared.played.Chair.{Chair}
 use Rattle.sj_seat.specs.Asked.{want_opening}
-use Rattle.sj_seat.specs.Logged.{opening_note}
+use Rattle.sj_seat.specs.Logged.{opening_end, opening_note}
 use Rattle.sj_seat.specs.NodeOpening.{Opens, note_opening}
 use Rattle.sj_seat.specs.Wishes.{open_wished}
 use Rattle.sj_seat.specs.declared.wish.OpenWish.{OpenWish}
 use Rattle.sj_seat.specs.declared.wish.OpenWish.TheVariants.{Request, Accept}
 use Rattle.sj_seat_laws.specs.Guards as guards
 use Rattle.sj_seats.specs.Calling.{OpensOne, OpensSo, protocol_asked}
-use Rattle.sj_seats.specs.Calls.{session_in}
+use Rattle.sj_seats.specs.Calls.{end_in}
 use Rattle.sj_seats.proofs.MakingLemmas.{Makes, StepsTo}
-use Rattle.sj_seat.proofs.SessionLemmas.{note_told, opening_noted, opening_row}
+use Rattle.sj_seat.proofs.SessionLemmas.{end_told, note_told, opening_noted, opening_row}
 use Rattle.sj_seat.proofs.CalledLemmas.{stepped}
 use Rattle.sj_seat.proofs.DoneLemmas.{few_so}
 
@@ -45,26 +45,26 @@ open_so old new wish place (Ok e) did opens = record {
 }
 
 -- its note tells the session that was opened as that protocol
-opening_tells : (n : Node) (wish : OpenWish) (end : EndId) (opened : ℕ → ℕ) → Opens n wish end → opened end.sess ≡ protocol_asked wish → call_told (opened (session_in (note_seen (note_opening n wish)))) (note_seen (note_opening n wish)) ≡ Some (open_wished wish)
-opening_tells n wish end opened opens same = ap (λ (note : NoteAt). call_told (opened (session_in note)) note) (note_told n wish end opens) ∙ by wish same
+opening_tells : (n : Node) (wish : OpenWish) (end : EndId) (opened : EndId → ℕ) → Opens n wish end → opened end ≡ protocol_asked wish → call_told (opened (end_in (note_seen (note_opening n wish)))) (note_seen (note_opening n wish)) ≡ Some (open_wished wish)
+opening_tells n wish end opened opens same = ap (λ (note : NoteAt). call_told (opened (end_in note)) note) (note_told n wish end opens) ∙ by wish (ap opened (sym (end_told n wish end opens)) ∙ same)
   where
-    by : (w : OpenWish) → opened end.sess ≡ protocol_asked w → call_told (opened (session_in (opening_note w end.sess))) (opening_note w end.sess) ≡ Some (open_wished w)
+    by : (w : OpenWish) → opened (opening_end w end.sess) ≡ protocol_asked w → call_told (opened (end_in (opening_note w end.sess))) (opening_note w end.sess) ≡ Some (open_wished w)
     by (Request q m) is = ap (λ (k : ℕ). Some (open_wished (Request q k))) is
     by (Accept q m) is = ap (λ (k : ℕ). Some (open_wished (Accept q k))) is
 
-session_is : (wish : OpenWish) (sess : ℕ) → sess ≡ session_in (opening_note wish sess)
-session_is (Request q m) sess = refl
-session_is (Accept q m) sess = refl
+end_is : (wish : OpenWish) (sess : ℕ) → opening_end wish sess ≡ end_in (opening_note wish sess)
+end_is (Request q m) sess = refl
+end_is (Accept q m) sess = refl
 
--- where it was noted so, the session is the one that the note names
-pub opened_so : (t : Table) (opened : ℕ → ℕ) (old new : Node) (before after : Chair) (wish : OpenWish) (e : Entry) (note : Note) → (x : OpensOne t old before wish e new after) → note_seen e.note ≡ note_seen note → protocol_asked wish ≡ opened (session_in (note_seen note))
-    → opened x.end.sess ≡ protocol_asked wish
+-- where it was noted so, the end is that of the session which the note names
+pub opened_so : (t : Table) (opened : EndId → ℕ) (old new : Node) (before after : Chair) (wish : OpenWish) (e : Entry) (note : Note) → (x : OpensOne t old before wish e new after) → note_seen e.note ≡ note_seen note → protocol_asked wish ≡ opened (end_in (note_seen note))
+    → opened x.end ≡ protocol_asked wish
 opened_so t opened old new before after wish e note x same told =
     let is = entry_is old x.mid new x.opened.called.left (clock_of old + 1) events.Act (note_opening old wish) e x.opened.called.did x.took x.entry in
-    ap opened (session_is wish x.end.sess ∙ ap session_in (sym (note_told old wish x.end x.opened.opens) ∙ ap (λ (f : Entry). note_seen f.note) (sym is) ∙ same)) ∙ sym told
+    ap opened (end_told old wish x.end x.opened.opens ∙ end_is wish x.end.sess ∙ ap end_in (sym (note_told old wish x.end x.opened.opens) ∙ ap (λ (f : Entry). note_seen f.note) (sym is) ∙ same)) ∙ sym told
 
 -- the session that may be opened is, as the step of that call
-pub open_makes : (t : Table) (opened : ℕ → ℕ) (old new : Node) (before after : Chair) (wish : OpenWish) (e : Entry) → (x : OpensOne t old before wish e new after) → opened x.end.sess ≡ protocol_asked wish → Makes t opened old before (open_wished wish) e new after
+pub open_makes : (t : Table) (opened : EndId → ℕ) (old new : Node) (before after : Chair) (wish : OpenWish) (e : Entry) → (x : OpensOne t old before wish e new after) → opened x.end ≡ protocol_asked wish → Makes t opened old before (open_wished wish) e new after
 open_makes t opened old new before after wish e x same =
     let os = openings_at t before.may in
     let bs = ends_at t before.ends.items in

@@ -1,8 +1,10 @@
 -- The calls that a history tells of each party's code, where it is known of which protocol each opened
 -- session is.
 use Rattle.std.specs.Prelude.{ℕ, ◌==◌, Bool, if◌then◌else◌, List, [], ◌∷◌, ◌++◌, Option, Some, None}
+use Rattle.sj_base.specs.declared.EndId.{EndId}
 use Rattle.sj_rules.specs.Log as logs
 use Rattle.sj_rules.specs.Log.{LineAt, NoteAt}
+use Rattle.sj_rules.specs.Record.{offered_end, requested_end}
 use Rattle.sj_rules.specs.World.{Act, Deliver, Event}
 use Rattle.sj_seat_laws.specs.Calls.{Call}
 use Rattle.sj_seat_laws.specs.SeatRows.{call_told}
@@ -13,19 +15,19 @@ abbrev pub one_call : Option Call → List Call
 one_call None = []
 one_call (Some c) = c ∷ []
 
--- as which protocol each party's code opened the session of that number
+-- as which protocol each party's code opened the session of that end
 abbrev pub OpenedAs : Type 0
-OpenedAs = ℕ → ℕ → ℕ
+OpenedAs = ℕ → EndId → ℕ
 
--- the session that an act with that note opens; of others it is no matter
-abbrev pub session_in : NoteAt → ℕ
-session_in (logs.Request s q) = s
-session_in (logs.Accept s q) = s
-session_in _ = 0
+-- the own end of the session that an act with that note opens; of others it is no matter
+abbrev pub end_in : NoteAt → EndId
+end_in (logs.Request s q) = requested_end s
+end_in (logs.Accept s q) = offered_end s
+end_in _ = requested_end 0
 
 -- the call of an act with that note, whose party opened its sessions as these
-abbrev pub call_of_event : (opened : ℕ → ℕ) → Event → NoteAt → List Call
-call_of_event opened Act note = one_call (call_told (opened (session_in note)) note)
+abbrev pub call_of_event : (opened : EndId → ℕ) → Event → NoteAt → List Call
+call_of_event opened Act note = one_call (call_told (opened (end_in note)) note)
 call_of_event opened (Deliver q) note = []
 
 -- the call of that party which the line tells

@@ -11,7 +11,7 @@ ghost use Rattle.sj_seat.specs.Holding.{ends_at};
 ghost use Rattle.sj_seat.specs.Opened.{openings_at};
 ghost use Rattle.sj_seat.specs.Places.{CarriesPlaces};
 ghost use Rattle.sj_seats.specs.Calling.{OpensOne, OpensSo, Sits, protocol_asked};
-ghost use Rattle.sj_seats.specs.Calls.{session_in};
+ghost use Rattle.sj_seats.specs.Calls.{end_in};
 ghost use Rattle.sj_seats.specs.Openings.{opened_by, protocol_in};
 ghost use Rattle.sj_seats.specs.Played.{IsLed, Redoes, Rests, nodes_in};
 
@@ -24,12 +24,12 @@ use sj_node::{Halt, Node};
 use sj_seat::{Guard, OpenWish, OpenedSession, hold};
 use sj_table::{Spot, Table};
 
-/// The protocol of the session of that number.
-fn protocol_in(opened: &[OpenedSession], sess: u32) -> u16
-    ensures { result ≡ protocol_in opened.now sess }
+/// The protocol of the session of that end.
+fn protocol_in(opened: &[OpenedSession], end: EndId) -> u16
+    ensures { result ≡ protocol_in opened.now end }
 {
     for session in opened {
-        if session.sess == sess {
+        if session.end == end {
             return session.protocol;
         }
     }
@@ -37,11 +37,11 @@ fn protocol_in(opened: &[OpenedSession], sess: u32) -> u16
 }
 
 /// The protocol as which the party opened it.
-fn protocol_of(opened: &[Vec<OpenedSession>], party: u16, sess: u32) -> u16
-    ensures { result ≡ opened_by opened.now party sess }
+fn protocol_of(opened: &[Vec<OpenedSession>], party: u16, end: EndId) -> u16
+    ensures { result ≡ opened_by opened.now party end }
 {
     match opened.get(party as usize) {
-        Some(own) => protocol_in(own, sess),
+        Some(own) => protocol_in(own, end),
         None => 0,
     }
 }
@@ -49,16 +49,16 @@ fn protocol_of(opened: &[Vec<OpenedSession>], party: u16, sess: u32) -> u16
 /// The session that a code asked for whose act has that note; none for what opens none.
 fn open_wish_of(opened: &[Vec<OpenedSession>], party: u16, note: Note) -> Option<OpenWish>
     ensures { IfSome result (λ w. protocol_asked w
-        ≡ opened_by opened.now party (session_in (note_seen note))) }
+        ≡ opened_by opened.now party (end_in (note_seen note))) }
 {
     match note {
         Note::Request { sess, to } => Some(OpenWish::Request {
             party: to,
-            protocol: protocol_of(opened, party, sess),
+            protocol: protocol_of(opened, party, EndId { sess, side: 0 }),
         }),
         Note::Accept { sess, from } => Some(OpenWish::Accept {
             party: from,
-            protocol: protocol_of(opened, party, sess),
+            protocol: protocol_of(opened, party, EndId { sess, side: 1 }),
         }),
         _ => None,
     }

@@ -1,5 +1,6 @@
 //! The core world of an accepted file in which some parties are played by code of their own.
 ghost use Rattle.std.specs.Prelude.{◌≡◌, ◌<◌, ◌≤◌, ℕ, [], IfErr, IfOk, OnOk, length, map, max, option_map, slice_get, Some};
+ghost use Rattle.sj_base.specs.declared.EndId.{EndId};
 ghost use Rattle.sj_check.specs.Held.{file_in as held};
 ghost use Rattle.sj_core.specs.Views.{line_at};
 ghost use Rattle.sj_lang.specs.FileAt.{body_named};
@@ -98,7 +99,7 @@ impl SeatedWorld {
         ensures kept { IfOk result (λ w. kept_file w ≡ without_words (file_of (held accepted.now))) }
         ensures history { IfOk result (λ w. history_of w ≡ map line_at lines.items) }
         ensures seats { IfOk result (λ w. (q : ℕ) → seats_of w q ≡ seat_in seats.now q) }
-        ensures opened { IfOk result (λ w. (q sess : ℕ) → opened_of w q sess ≡ opened_by opened.items q sess) }
+        ensures opened { IfOk result (λ w. (q : ℕ) (e : EndId) → opened_of w q e ≡ opened_by opened.items q e) }
 
         // What is true of every world.
         ensures run { IfOk result (λ w. IsSeatsHistory max (kept_file w) (callers_of w) (history_of w) (core_of w)) }

@@ -1,5 +1,6 @@
 //! A world with seats before any event.
 ghost use Rattle.std.specs.Prelude.{◌≡◌, ◌<◌, ℕ, [], IfOk, length};
+ghost use Rattle.sj_base.specs.declared.EndId.{EndId};
 ghost use Rattle.sj_check.specs.Held.{file_in as held};
 ghost use Rattle.sj_lang.specs.FileAt.{body_named};
 ghost use Rattle.sj_lang.specs.FileView.{file_of};
@@ -101,7 +102,7 @@ impl PlayedWorld {
         ensures file { IfOk result (λ c. file_in c ≡ without_words (file_of (held accepted.now))) }
         ensures history { IfOk result (λ c. history_in c ≡ []) }
         ensures seats { IfOk result (λ c. (q : ℕ) → is_seat (chairs_in c) q ≡ seat_in seats.now q) }
-        ensures opened { IfOk result (λ c. (q sess : ℕ) → opened_in c q sess ≡ opened_by opened.items q sess) }
+        ensures opened { IfOk result (λ c. (q : ℕ) (e : EndId) → opened_in c q e ≡ opened_by opened.items q e) }
     {
         let mut nodes = Vec::new(alloc);
         let mut chairs = Vec::new(alloc);

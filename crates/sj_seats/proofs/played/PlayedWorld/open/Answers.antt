@@ -5,7 +5,7 @@ use Rattle.sj_seats.proofs.MakingLemmas.{make_redoes}
 use Rattle.sj_seats.proofs.SittingLemmas.{call_rests}
 use Rattle.sj_seats.specs.Played.{opened_in}
 use Rattle.sj_end.specs.Lines.{note_seen}
-use Rattle.sj_seats.specs.Calls.{session_in}
+use Rattle.sj_seats.specs.Calls.{end_in}
 use Rattle.sj_seats.specs.Openings.{opened_by}
 use Rattle.sj_seats.proofs.SessionLemmas.{open_makes, opened_so}
 use Rattle.sj_seats.proofs.RunLemmas.{low_node}
@@ -31,7 +31,7 @@ returns-in-Some-index_mut-clause-done c =
     done_so c.make_open.result _ _
     (λ e x same.
     let chair = c.in-Some-index_mut.chair in
-    let asks = c.in-Some.ensures ∙ ap (λ os. opened_by os c.args.party (session_in (note_seen c.args.note))) c.deref.ensures.value in
+    let asks = c.in-Some.ensures ∙ ap (λ os. opened_by os c.args.party (end_in (note_seen c.args.note))) c.deref.ensures.value in
     let as_told = opened_so self.table (opened_in self c.args.party) old c.make_open.new.node chair c.make_open.new.chair c.in-Some.wish e c.args.note x same asks in
     let made = open_makes self.table (opened_in self c.args.party) old c.make_open.new.node chair c.make_open.new.chair c.in-Some.wish e x as_told in
     make_redoes self _ c.args.party old c.make_open.new.node c.in-Some-index_mut.chair c.make_open.new.chair _ e made parties there sits refl refl refl refl refl)

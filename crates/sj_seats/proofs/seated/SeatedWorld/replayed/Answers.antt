@@ -23,4 +23,4 @@ returns-in-Err-clause-misfit c =
     (subst (λ (o : OpenedAs). IsMisfitFrom (file_in begun.played_world) (is_seat (chairs_in begun.played_world)) o lines c.in-Err.refusal) (λ i q s. begun.ensures.opened q s i) c.in-Err.ensures.misfit))
 
 pub returns-in-Ok-clause-opened : goal.returns-in-Ok-clause-opened
-returns-in-Ok-clause-opened c = λ q sess. ap (λ (o : OpenedAs). o q sess) c.in-Ok.ensures.keeps.opened ∙ c.in_ok-played_world.ensures.opened q sess
+returns-in-Ok-clause-opened c = λ q e. ap (λ (o : OpenedAs). o q e) c.in-Ok.ensures.keeps.opened ∙ c.in_ok-played_world.ensures.opened q e
