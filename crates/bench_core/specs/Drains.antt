@@ -3,7 +3,7 @@ use Rattle.std.specs.Prelude.{◌≡◌, ℕ, List, length, max}
 use Rattle.sj_lang.specs.FileAt.{FileAt}
 use Rattle.sj_lang.specs.Place.{Place}
 use Rattle.sj_semantics.specs.Program.{Program}
-use Rattle.sj_plain.specs.Kept.{without_words}
+use Rattle.sj_plain.specs.SharedFile.{without_words}
 use Rattle.sj_grammar.specs.Files.{IsFile}
 use Rattle.sj_rules.specs.History.{IsHistory, IsQuietAmong}
 use Rattle.sj_rules.specs.Log.{LineAt}

@@ -2,7 +2,7 @@
 #![tactic(auto)]
 
 pub use sj_base::{EndId, NoMemory};
-pub use sj_check::{Accepted, CheckRefusal, check};
+pub use sj_check::{Accepted, CheckRefusal, CheckRule, check};
 pub use sj_core::{ReplayRefusal, StepRefusal, World, first_nodes};
 pub use sj_end::{CLOCK_END, Event, Frame, Line, Misfit};
 pub use sj_lane::{InLane, Lanes, Links, MakeRefusal, OutLane, PopRefusal, PushRefusal, RingLinks};

@@ -3,7 +3,7 @@
 ghost use Rattle.std.specs.Prelude.{◌≡◌};
 ghost use Rattle.sj_check.specs.Held.{file_in as held};
 ghost use Rattle.sj_lang.specs.FileView.{file_of};
-ghost use Rattle.sj_plain.specs.Kept.{without_words};
+ghost use Rattle.sj_plain.specs.SharedFile.{without_words};
 ghost use Rattle.sj_seats.specs.Seated.{kept_file};
 
 use crate::why::Why;

@@ -1,6 +1,6 @@
 //! The public calls on a file of one party, and what no text of a file can have. First faults of
 //! files are cases of the program.
-use sj_check::{CheckRefusal, check, is_within_limits};
+use sj_check::{CheckRefusal, CheckRule, check, is_within_limits};
 use sj_lang::{
     Arms, Connect, Deed, EndDecl, Expr, File, Item, Kind, Names, Party, Proto, ProtocolDef, Stmt,
 };
@@ -67,7 +67,10 @@ fn parties_of(alloc: Global, file: File) -> Result<usize, CheckRefusal> {
 #[test]
 fn a_file_is_accepted_or_has_a_first_fault(rt: HostRuntime) -> Result<(), Fail> {
     let alloc = rt.alloc();
-    let unknown = CheckRefusal::At { rule: 5, line: 2 };
+    let unknown = CheckRefusal::At {
+        rule: CheckRule::NotThere,
+        line: 2,
+    };
     for (value, want) in [(Expr::Int(1), Ok(1)), (Expr::Var(N), Err(unknown))] {
         let file = lone(alloc, Deed::Let { name: N, value })?;
         assert_eq!(rt; parties_of(alloc, file), want);
@@ -93,7 +96,10 @@ fn an_inbranch_has_an_arm(rt: HostRuntime) -> Result<(), Fail> {
         first: own(X, P),
         second: own(Y, Q),
     })?;
-    let none = CheckRefusal::At { rule: 14, line: 2 };
+    let none = CheckRefusal::At {
+        rule: CheckRule::OtherArms,
+        line: 2,
+    };
     assert_eq!(rt; parties_of(alloc, file), Err(none));
     Ok(())
 }

@@ -22,7 +22,7 @@ impl FailsOnce {
 
 impl Links for FailsOnce {
     ghost use Rattle.std.specs.Prelude.{◌≡◌, ◌≤◌, true};
-    ghost use Rattle.sj_lane.specs.Square.{AllJoined, HasFault, IsSquare, Kept, NoFault};
+    ghost use Rattle.sj_lane.specs.Square.{AllJoined, HasFault, IsSquare, KeepsLists, NoFault};
     ghost use Rattle.sj_lane.specs.Told.{Rose};
     ghost use Rattle.std.proofs.Common.{rules};
 
@@ -76,7 +76,7 @@ impl Links for FailsOnce {
     fn back(&mut self, lanes: Vec<Lanes<RingOut, RingIn>>)
         requires square { IsSquare lanes.items }
         requires joined { AllJoined ⟦<RingLinks as Links>⟧.joined lanes.items }
-        ensures kept { true ≡ true → Kept ⟦<RingOut as OutLane>⟧.pushed ⟦<RingIn as InLane>⟧.popped
+        ensures kept { true ≡ true → KeepsLists ⟦<RingOut as OutLane>⟧.pushed ⟦<RingIn as InLane>⟧.popped
             ⟦<RingOut as OutLane>⟧.vain ⟦<RingIn as InLane>⟧.vain lanes.items
             (⟦<RingLinks as Links>⟧.sent self.new.rings) (⟦<RingLinks as Links>⟧.got self.new.rings)
             (⟦<RingLinks as Links>⟧.vain_out self.new.rings)

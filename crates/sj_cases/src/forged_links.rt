@@ -123,7 +123,7 @@ fn both(alloc: Global, opens: bool) -> Result<Vec<Lanes<Loses, Gives>>, AllocErr
 
 impl Links for Forged {
     ghost use Rattle.std.specs.Prelude.{◌≡◌, ◌≤◌, ℕ, [], false, true};
-    ghost use Rattle.sj_lane.specs.Square.{AllJoined, HasFault, IsSquare, Kept, NoFault};
+    ghost use Rattle.sj_lane.specs.Square.{AllJoined, HasFault, IsSquare, KeepsLists, NoFault};
     ghost use Rattle.sj_lane.specs.Told.{Rose};
 
     type Out = Loses;
@@ -175,7 +175,7 @@ impl Links for Forged {
     fn back(&mut self, lanes: Vec<Lanes<Loses, Gives>>)
         requires square { IsSquare lanes.items }
         requires joined { AllJoined (λ (o : _) (i : _). Unit {0}) lanes.items }
-        ensures kept { false ≡ true → Kept ⟦<Loses as OutLane>⟧.pushed ⟦<Gives as InLane>⟧.popped
+        ensures kept { false ≡ true → KeepsLists ⟦<Loses as OutLane>⟧.pushed ⟦<Gives as InLane>⟧.popped
             ⟦<Loses as OutLane>⟧.vain ⟦<Gives as InLane>⟧.vain lanes.items (λ _ _. []) (λ _ _. [])
             (λ _ _. 0) (λ _ _. 0) }
         ensures tells { false ≡ false }

@@ -134,7 +134,7 @@ fn both(alloc: Global, odd: &mut Odd) -> Result<Vec<Lanes<Breaks, Brings>>, Allo
 
 impl Links for Odd {
     ghost use Rattle.std.specs.Prelude.{◌≡◌, ◌≤◌, ◌^◌, ◌-◌, ℕ, [], false, true};
-    ghost use Rattle.sj_lane.specs.Square.{AllJoined, HasFault, IsSquare, Kept, NoFault};
+    ghost use Rattle.sj_lane.specs.Square.{AllJoined, HasFault, IsSquare, KeepsLists, NoFault};
     ghost use Rattle.sj_lane.specs.Told.{Rose};
 
     type Out = Breaks;
@@ -186,7 +186,7 @@ impl Links for Odd {
     fn back(&mut self, lanes: Vec<Lanes<Breaks, Brings>>)
         requires square { IsSquare lanes.items }
         requires joined { AllJoined (λ (o : _) (i : _). Unit {0}) lanes.items }
-        ensures kept { false ≡ true → Kept ⟦<Breaks as OutLane>⟧.pushed ⟦<Brings as InLane>⟧.popped
+        ensures kept { false ≡ true → KeepsLists ⟦<Breaks as OutLane>⟧.pushed ⟦<Brings as InLane>⟧.popped
             ⟦<Breaks as OutLane>⟧.vain ⟦<Brings as InLane>⟧.vain lanes.items (λ _ _. []) (λ _ _. [])
             (λ _ _. 0) (λ _ _. 0) }
         ensures tells { false ≡ false }

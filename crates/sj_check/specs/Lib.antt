@@ -3,6 +3,7 @@ pub mod SpotEnv
 pub mod Maps
 pub mod Named
 pub mod Openings
+pub mod Rules
 pub mod Seen
 pub mod Table
 pub mod Told

@@ -16,7 +16,7 @@ use crate::CheckRefusal;
 use crate::env::Env;
 use crate::files::is_party;
 use crate::places::{body_named, do_meet};
-use crate::rules::{DO_NOT_MEET, NAME_IN_USE, NO_PARTY, NO_PROTOCOL, broken};
+use crate::rules::{CheckRule, broken};
 use crate::tables::Protocols;
 use sj_base::NoMemory;
 use sj_lang::{Connect, EndDecl, Party, Proto, ProtocolDef};
@@ -58,7 +58,7 @@ fn connection(
     let taken = is_taken(earlier, &connect.second) || is_same_end(&connect.first, &connect.second);
     let second = connected(parties, protocols, line, taken, &connect.second)?;
     if !do_meet(first, second) {
-        return Err(broken(DO_NOT_MEET, line));
+        return Err(broken(CheckRule::DoNotMeet, line));
     }
     Ok(())
 }
@@ -78,18 +78,19 @@ fn connected<'a>(
     ensures cause { IfErr result IsFault }
 {
     if !is_party(parties, end.party) {
-        return Err(broken(NO_PARTY, line));
+        return Err(broken(CheckRule::NoParty, line));
     }
     let Some(body) = body_named(protocols, end.protocol) else {
-        return Err(broken(NO_PROTOCOL, line));
+        return Err(broken(CheckRule::NoProtocol, line));
     };
     if taken {
-        return Err(broken(NAME_IN_USE, line));
+        return Err(broken(CheckRule::NameInUse, line));
     }
     Ok(body)
 }
 
-fn is_same_end(first: &EndDecl, second: &EndDecl) -> bool
+/// Whether both name one end of one party.
+pub fn is_same_end(first: &EndDecl, second: &EndDecl) -> bool
     ensures { result ≡ tests.is_same_end (decl_of first.now) (decl_of second.now) }
 {
     first.party == second.party && first.name == second.name

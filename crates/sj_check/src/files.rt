@@ -16,7 +16,7 @@ ghost use Rattle.sj_check.specs.Told.{Judges, IsFault};
 use crate::CheckRefusal;
 use crate::ends::{at_start, connections};
 use crate::openings::openings_meet;
-use crate::rules::{LEFT_OPEN, NAME_IN_USE, broken};
+use crate::rules::{CheckRule, broken};
 use crate::tables::Protocols;
 use crate::uniqueness::names_once;
 use crate::walk::block;
@@ -45,7 +45,7 @@ fn protocols_apart(protocols: &[ProtocolDef]) -> Result<(), CheckRefusal>
     for i in 0..protocols.len() {
         let protocol = &protocols[i];
         if is_protocol(&protocols[..i], protocol.name) || !names_once(&protocol.body) {
-            return Err(broken(NAME_IN_USE, protocol.line));
+            return Err(broken(CheckRule::NameInUse, protocol.line));
         }
     }
     Ok(())
@@ -69,7 +69,7 @@ fn parties_apart(parties: &[Party]) -> Result<(), CheckRefusal>
     for i in 0..parties.len() {
         let party = &parties[i];
         if is_party(&parties[..i], party.name) {
-            return Err(broken(NAME_IN_USE, party.line));
+            return Err(broken(CheckRule::NameInUse, party.line));
         }
     }
     Ok(())
@@ -113,7 +113,7 @@ fn body(
     let mut env = at_start(alloc, protocols, connects, party.name)?;
     block(protocols, &mut env, &party.body)?;
     if !env.has_no_ends() {
-        return Err(broken(LEFT_OPEN, party.line));
+        return Err(broken(CheckRule::LeftOpen, party.line));
     }
     Ok(())
 }

@@ -18,7 +18,7 @@ use crate::env::Env;
 use crate::kinds::{expr_kind, same_kind};
 use crate::name_lists::has_same_ends_at;
 use crate::places::is_choice;
-use crate::rules::{ARMS_DIFFER, NOT_THERE, OTHER_ACTION, OTHER_ARMS, OTHER_KIND, broken};
+use crate::rules::{CheckRule, broken};
 use crate::tables::Protocols;
 use sj_lang::{Expr, Scalar, StmtArm, Way};
 use std::collections::BTreeSet;
@@ -35,13 +35,13 @@ pub fn branching(
         Judges (branching_tests line (env_in protocols.now env.now) end bs) result }
 {
     let Some(spot) = env.spot(end) else {
-        return Err(broken(NOT_THERE, line));
+        return Err(broken(CheckRule::NotThere, line));
     };
     if !is_choice(Way::Into, &protocols.table, spot) {
-        return Err(broken(OTHER_ACTION, line));
+        return Err(broken(CheckRule::OtherAction, line));
     }
     if !env.has_arms(&protocols.table, spot, arms)? {
-        return Err(broken(OTHER_ARMS, line));
+        return Err(broken(CheckRule::OtherArms, line));
     }
     Ok(())
 }
@@ -60,7 +60,7 @@ pub fn tested(env: &Env, line: u32, test: &Expr) -> Result<Env, CheckRefusal>
 {
     let kind = expr_kind(env.variables(), line, test)?;
     if !same_kind(kind, Scalar::Boolean) {
-        return Err(broken(OTHER_KIND, line));
+        return Err(broken(CheckRule::OtherKind, line));
     }
     Ok(env.copied()?)
 }
@@ -83,7 +83,7 @@ pub fn join(
     ensures cause { IfErr result IsFault }
 {
     if !has_same_ends_at(protocols, env, other, named) {
-        return Err(broken(ARMS_DIFFER, line));
+        return Err(broken(CheckRule::ArmsDiffer, line));
     }
     env.keep_common(other);
     Ok(())

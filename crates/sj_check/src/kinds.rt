@@ -11,7 +11,7 @@ ghost use Rattle.sj_acceptance.specs.FirstItem as places;
 ghost use Rattle.sj_check.specs.Told.{Judges, IsFault};
 
 use crate::CheckRefusal;
-use crate::rules::{NOT_THERE, OTHER_KIND, broken};
+use crate::rules::{CheckRule, broken};
 use crate::variables::Variables;
 use sj_lang::{Expr, Kind, Op, Scalar};
 
@@ -27,12 +27,12 @@ pub fn expr_kind(known: &Variables, line: u32, value: &Expr) -> Result<Scalar, C
         Expr::Text(_) => Ok(Scalar::Text),
         Expr::Var(name) => match known.kind(*name) {
             Some(kind) => Ok(kind),
-            None => Err(broken(NOT_THERE, line)),
+            None => Err(broken(CheckRule::NotThere, line)),
         },
         Expr::Not(inner) => {
             let kind = expr_kind(known, line, inner)?;
             if !same_kind(kind, Scalar::Boolean) {
-                return Err(broken(OTHER_KIND, line));
+                return Err(broken(CheckRule::OtherKind, line));
             }
             Ok(Scalar::Boolean)
         }
@@ -40,7 +40,7 @@ pub fn expr_kind(known: &Variables, line: u32, value: &Expr) -> Result<Scalar, C
             let first = expr_kind(known, line, left)?;
             let second = expr_kind(known, line, right)?;
             if !takes(*op, first, second) {
-                return Err(broken(OTHER_KIND, line));
+                return Err(broken(CheckRule::OtherKind, line));
             }
             Ok(gives(*op))
         }

@@ -26,5 +26,7 @@ mod walk;
 
 pub use accepted::Accepted;
 pub use checker::check;
+pub use ends::is_same_end;
 pub use limits::is_within_limits;
 pub use refusal::CheckRefusal;
+pub use rules::CheckRule;

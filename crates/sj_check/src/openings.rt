@@ -15,7 +15,7 @@ ghost use Rattle.sj_check.specs.Views.{protocols_of, parties_of};
 
 use crate::CheckRefusal;
 use crate::places::{body_named, do_meet};
-use crate::rules::{ACCEPT_UNMET, broken};
+use crate::rules::{CheckRule, broken};
 use sj_base::NoMemory;
 use sj_lang::{Deed, Party, Proto, ProtocolDef, Stmt, StmtArm};
 use std::alloc::Global;
@@ -117,7 +117,7 @@ fn accepts_met(
 {
     for accept in &own.accepts {
         if !meets_requests(alloc, protocols, all, own.party, accept) {
-            return Err(broken(ACCEPT_UNMET, accept.line));
+            return Err(broken(CheckRule::AcceptUnmet, accept.line));
         }
     }
     Ok(())

@@ -17,10 +17,7 @@ use crate::kinds::{carries_as, expr_kind, is_free_for};
 use crate::places::{
     is_choice, is_session, is_session_of, selected, sending, stands_for_carried, taking,
 };
-use crate::rules::{
-    CLOSED_EARLY, NAME_IN_USE, NO_LABEL, NO_PARTY, NO_PROTOCOL, NOT_THERE, NOT_TO_DELEGATE,
-    OTHER_ACTION, OTHER_KIND, broken,
-};
+use crate::rules::{CheckRule, broken};
 use crate::tables::Protocols;
 use sj_lang::{Expr, Scalar, Way};
 
@@ -35,14 +32,14 @@ pub fn send(
         Does [] [] line deed (env_in protocols.now env.old) (env_in protocols.now env.new) result }
 {
     let Some(spot) = env.spot(end) else {
-        return Err(broken(NOT_THERE, line));
+        return Err(broken(CheckRule::NotThere, line));
     };
     let Some((wanted, rest)) = sending(&protocols.table, spot) else {
-        return Err(broken(OTHER_ACTION, line));
+        return Err(broken(CheckRule::OtherAction, line));
     };
     let kind = expr_kind(env.variables(), line, value)?;
     if !carries_as(kind, wanted) {
-        return Err(broken(OTHER_KIND, line));
+        return Err(broken(CheckRule::OtherKind, line));
     }
     env.put_spot(end, rest)?;
     Ok(())
@@ -53,10 +50,10 @@ pub fn close(protocols: &Protocols, env: &mut Env, line: u32, end: u16) -> Resul
     ensures cause { IfErr result IsFault }
 {
     let Some(spot) = env.spot(end) else {
-        return Err(broken(NOT_THERE, line));
+        return Err(broken(CheckRule::NotThere, line));
     };
     if !protocols.table.is_done(spot) {
-        return Err(broken(CLOSED_EARLY, line));
+        return Err(broken(CheckRule::ClosedEarly, line));
     }
     env.remove(end);
     Ok(())
@@ -73,25 +70,25 @@ pub fn delegate(
         Does [] [] line deed (env_in protocols.now env.old) (env_in protocols.now env.new) result }
 {
     let Some(spot) = env.spot(end) else {
-        return Err(broken(NOT_THERE, line));
+        return Err(broken(CheckRule::NotThere, line));
     };
     let Some(given) = env.spot(sent) else {
-        return Err(broken(NOT_THERE, line));
+        return Err(broken(CheckRule::NotThere, line));
     };
     if end == sent {
-        return Err(broken(NOT_TO_DELEGATE, line));
+        return Err(broken(CheckRule::NotToDelegate, line));
     }
     let Some((wanted, follows)) = sending(&protocols.table, spot) else {
-        return Err(broken(OTHER_ACTION, line));
+        return Err(broken(CheckRule::OtherAction, line));
     };
     if !is_session(wanted) {
-        return Err(broken(OTHER_KIND, line));
+        return Err(broken(CheckRule::OtherKind, line));
     }
     if protocols.table.is_done(given) {
-        return Err(broken(NOT_TO_DELEGATE, line));
+        return Err(broken(CheckRule::NotToDelegate, line));
     }
     if !stands_for_carried(&protocols.table, given, wanted) {
-        return Err(broken(OTHER_KIND, line));
+        return Err(broken(CheckRule::OtherKind, line));
     }
     env.remove(sent);
     env.put_spot(end, follows)?;
@@ -110,19 +107,19 @@ pub fn take_value(
         Does [] [] line deed (env_in protocols.now env.old) (env_in protocols.now env.new) result }
 {
     let Some(spot) = env.spot(end) else {
-        return Err(broken(NOT_THERE, line));
+        return Err(broken(CheckRule::NotThere, line));
     };
     let Some((wanted, rest)) = taking(&protocols.table, spot) else {
-        return Err(broken(OTHER_ACTION, line));
+        return Err(broken(CheckRule::OtherAction, line));
     };
     if !carries_as(kind, wanted) {
-        return Err(broken(OTHER_KIND, line));
+        return Err(broken(CheckRule::OtherKind, line));
     }
     if env.is_live(into) {
-        return Err(broken(NAME_IN_USE, line));
+        return Err(broken(CheckRule::NameInUse, line));
     }
     if !is_free_for(env.kind(into), kind) {
-        return Err(broken(OTHER_KIND, line));
+        return Err(broken(CheckRule::OtherKind, line));
     }
     env.put_spot(end, rest)?;
     env.put_kind(into, kind)?;
@@ -142,19 +139,19 @@ pub fn take_end(
         Does (defs_in protocols.now) [] line deed old (env_in protocols.now env.new) result }
 {
     let Some(spot) = env.spot(end) else {
-        return Err(broken(NOT_THERE, line));
+        return Err(broken(CheckRule::NotThere, line));
     };
     let Some(start) = protocols.start(protocol) else {
-        return Err(broken(NO_PROTOCOL, line));
+        return Err(broken(CheckRule::NoProtocol, line));
     };
     let Some((wanted, rest)) = taking(&protocols.table, spot) else {
-        return Err(broken(OTHER_ACTION, line));
+        return Err(broken(CheckRule::OtherAction, line));
     };
     if !is_session_of(&protocols.table, start, wanted) {
-        return Err(broken(OTHER_KIND, line));
+        return Err(broken(CheckRule::OtherKind, line));
     }
     if env.is_live(into) || env.is_known(into) {
-        return Err(broken(NAME_IN_USE, line));
+        return Err(broken(CheckRule::NameInUse, line));
     }
     env.put_spot(end, rest)?;
     env.put_spot(into, start)?;
@@ -172,13 +169,13 @@ pub fn select(
         Does [] [] line deed (env_in protocols.now env.old) (env_in protocols.now env.new) result }
 {
     let Some(spot) = env.spot(end) else {
-        return Err(broken(NOT_THERE, line));
+        return Err(broken(CheckRule::NotThere, line));
     };
     if !is_choice(Way::Out, &protocols.table, spot) {
-        return Err(broken(OTHER_ACTION, line));
+        return Err(broken(CheckRule::OtherAction, line));
     }
     let Some(arm) = selected(&protocols.table, spot, label) else {
-        return Err(broken(NO_LABEL, line));
+        return Err(broken(CheckRule::NoLabel, line));
     };
     env.put_spot(end, arm)?;
     Ok(())
@@ -196,10 +193,10 @@ pub fn let_be(
 {
     let kind = expr_kind(env.variables(), line, value)?;
     if env.is_live(name) {
-        return Err(broken(NAME_IN_USE, line));
+        return Err(broken(CheckRule::NameInUse, line));
     }
     if !is_free_for(env.kind(name), kind) {
-        return Err(broken(OTHER_KIND, line));
+        return Err(broken(CheckRule::OtherKind, line));
     }
     env.put_kind(name, kind)?;
     Ok(())
@@ -220,13 +217,13 @@ pub fn open(
         Walks tests (with_live old end (body_named ps protocol)) (env_in protocols.now env.new) result }
 {
     let Some(start) = protocols.start(protocol) else {
-        return Err(broken(NO_PROTOCOL, line));
+        return Err(broken(CheckRule::NoProtocol, line));
     };
     if !is_party(protocols.parties, party) {
-        return Err(broken(NO_PARTY, line));
+        return Err(broken(CheckRule::NoParty, line));
     }
     if env.is_live(end) || env.is_known(end) {
-        return Err(broken(NAME_IN_USE, line));
+        return Err(broken(CheckRule::NameInUse, line));
     }
     env.put_spot(end, start)?;
     Ok(())

@@ -17,7 +17,7 @@ use crate::kinds::{expr_kind, same_kind};
 use crate::moves::{at_arm, enter, pass, pass_both};
 use crate::name_lists::has_same_ends_at;
 use crate::places::is_loop;
-use crate::rules::{ARMS_DIFFER, NOT_THERE, OTHER_ACTION, OTHER_KIND, TURN_DIFFERS, broken};
+use crate::rules::{CheckRule, broken};
 use crate::statements::{close, delegate, let_be, open, select, send, take_end, take_value};
 use crate::tables::Protocols;
 use sj_lang::{Deed, Expr, Scalar, Stmt, StmtArm, Way};
@@ -58,7 +58,7 @@ fn statement(protocols: &Protocols, env: &mut Env, stmt: &Stmt) -> Result<(), Ch
             branching(protocols, env, line, *end, arms)?;
             let (left, agree) = all_arms(protocols, env, *end, arms)?;
             if !agree {
-                return Err(broken(ARMS_DIFFER, line));
+                return Err(broken(CheckRule::ArmsDiffer, line));
             }
             *env = left;
             Ok(())
@@ -102,21 +102,21 @@ fn out_while(
         Does (defs_in protocols.now) (names_in protocols.now) line deed old (env_in protocols.now env.new) result }
 {
     let Some(spot) = env.spot(end) else {
-        return Err(broken(NOT_THERE, line));
+        return Err(broken(CheckRule::NotThere, line));
     };
     if !is_loop(Way::Out, &protocols.table, spot) {
-        return Err(broken(OTHER_ACTION, line));
+        return Err(broken(CheckRule::OtherAction, line));
     }
     let kind = expr_kind(env.variables(), line, count)?;
     if !same_kind(kind, Scalar::Int) {
-        return Err(broken(OTHER_KIND, line));
+        return Err(broken(CheckRule::OtherKind, line));
     }
     let mut inner = env.copied()?;
     enter(protocols, env, &mut inner, end)?;
     block(protocols, &mut inner, body)?;
     let named = env.names(&[end], &[], body)?;
     if !has_same_ends_at(protocols, env, &inner, &named) {
-        return Err(broken(TURN_DIFFERS, line));
+        return Err(broken(CheckRule::TurnDiffers, line));
     }
     drop(inner);
     pass(protocols, env, end)?;
@@ -136,17 +136,17 @@ fn in_while(
         Does (defs_in protocols.now) (names_in protocols.now) line deed old (env_in protocols.now env.new) result }
 {
     let Some(spot) = env.spot(end) else {
-        return Err(broken(NOT_THERE, line));
+        return Err(broken(CheckRule::NotThere, line));
     };
     if !is_loop(Way::Into, &protocols.table, spot) {
-        return Err(broken(OTHER_ACTION, line));
+        return Err(broken(CheckRule::OtherAction, line));
     }
     let mut turn = env.copied()?;
     enter(protocols, env, &mut turn, end)?;
     block(protocols, &mut turn, body)?;
     let named = env.names(&[end], &[], body)?;
     if !has_same_ends_at(protocols, env, &turn, &named) {
-        return Err(broken(TURN_DIFFERS, line));
+        return Err(broken(CheckRule::TurnDiffers, line));
     }
     drop(turn);
     pass(protocols, env, end)?;
@@ -167,15 +167,15 @@ fn relay(
         Does (defs_in protocols.now) (names_in protocols.now) line deed old (env_in protocols.now env.new) result }
 {
     let Some(source) = env.spot(from) else {
-        return Err(broken(NOT_THERE, line));
+        return Err(broken(CheckRule::NotThere, line));
     };
     let Some(target) = env.spot(to) else {
-        return Err(broken(NOT_THERE, line));
+        return Err(broken(CheckRule::NotThere, line));
     };
     if !is_loop(Way::Into, &protocols.table, source)
         || !is_loop(Way::Out, &protocols.table, target)
     {
-        return Err(broken(OTHER_ACTION, line));
+        return Err(broken(CheckRule::OtherAction, line));
     }
     let mut inner = env.copied()?;
     enter(protocols, env, &mut inner, from)?;
@@ -183,7 +183,7 @@ fn relay(
     block(protocols, &mut inner, body)?;
     let named = env.names(&[from, to], &[], body)?;
     if !has_same_ends_at(protocols, env, &inner, &named) {
-        return Err(broken(TURN_DIFFERS, line));
+        return Err(broken(CheckRule::TurnDiffers, line));
     }
     drop(inner);
     pass_both(protocols, env, from, to)?;

@@ -6,7 +6,7 @@ use Rattle.std.proofs.lemmas.Fmt.{decimal_injective}
 use Rattle.clap.specs.Words.{Text}
 use Rattle.sj_command.specs.declared.tasks.Task.{Task}
 use Rattle.sj_command.specs.declared.tasks.Task.TheVariants.{Check, Show, Forest, Sim, Run, Forward, Replay, Talk, Make, Big}
-use Rattle.sj_command.specs.Task.{Asks, LineAt, Means, StandsForLooks, StandsForWorkers, flag_text, forwarding, most_looks, most_messages}
+use Rattle.sj_command.specs.Task.{Asks, ArgumentsAt, Means, StandsForLooks, StandsForWorkers, flag_text, forwarding, most_looks, most_messages}
 
 -- the name of a task's command
 abbrev name_of : Task → Text
@@ -22,7 +22,7 @@ name_of (Make n) = codes "make"
 name_of (Big n) = codes "big"
 
 -- a line that asks for a task has its name
-named : (l : LineAt) (t : Task) → Means l t → l.command ≡ Some (name_of t)
+named : (l : ArgumentsAt) (t : Task) → Means l t → l.command ≡ Some (name_of t)
 named l Check m = ap (λ k. k.command) m
 named l Show m = ap (λ k. k.command) m
 named l Forest m = ap (λ k. k.command) m
@@ -35,14 +35,14 @@ named l (Make n) m = ap (λ k. k.command) m.0
 named l (Big n) m = ap (λ k. k.command) m.0
 
 -- names that differ are not those of one line
-differ : (l : LineAt) (x y : Text) → bytes_eq x y ≡ false → bytes_eq x x ≡ true → l.command ≡ Some x → l.command ≡ Some y → ⊥
+differ : (l : ArgumentsAt) (x y : Text) → bytes_eq x y ≡ false → bytes_eq x x ≡ true → l.command ≡ Some x → l.command ≡ Some y → ⊥
 differ l x y off same e d =
     let both : Some x ≡ Some y = sym e ∙ d in
     let one : x ≡ y = cc in
     let bad : true ≡ false = sym same ∙ ap (bytes_eq x) one ∙ off in
     cc
 
-apart : (l : LineAt) (t u : Task) → bytes_eq (name_of t) (name_of u) ≡ false → bytes_eq (name_of t) (name_of t) ≡ true → Means l t → Means l u → ⊥
+apart : (l : ArgumentsAt) (t u : Task) → bytes_eq (name_of t) (name_of u) ≡ false → bytes_eq (name_of t) (name_of t) ≡ true → Means l t → Means l u → ⊥
 apart l t u off same m n = differ l (name_of t) (name_of u) off same (named l t m) (named l u n)
 
 -- the two texts of a flag differ
@@ -60,7 +60,7 @@ one_flag true false e = absurd (flags_differ (sym e))
 one_flag true true e = refl
 
 -- a run is forwarded or not
-not_both : (l : LineAt) (f : Bool) (x : ℕ) (w : Option ℕ) → Means l (Run f x w) → Means l Forward → ⊥
+not_both : (l : ArgumentsAt) (f : Bool) (x : ℕ) (w : Option ℕ) → Means l (Run f x w) → Means l Forward → ⊥
 not_both l f x w a b = flags_differ (sym (ap (λ k. k.forward) a.0) ∙ ap (λ k. k.forward) b)
 
 -- two numbers up to a million that are written alike are one
@@ -82,14 +82,14 @@ one_team (Some text) (Some m) None a b = absurd b
 one_team (Some text) (Some m) (Some n) a b = ap Some (one_number m n (omega (arith, a.2)) (omega (arith, b.2)) (sym a.0 ∙ b.0))
 
 -- a line has one number up to 1,000
-same_count : (l : LineAt) (n m : ℕ) → l.number ≡ Some (decimal n) → l.number ≡ Some (decimal m) → n ≤ most_messages → m ≤ most_messages → n ≡ m
+same_count : (l : ArgumentsAt) (n m : ℕ) → l.number ≡ Some (decimal n) → l.number ≡ Some (decimal m) → n ≤ most_messages → m ≤ most_messages → n ≡ m
 same_count l n m a b few few_too =
     let both : Some (decimal n) ≡ Some (decimal m) = sym a ∙ b in
     let digits : decimal n ≡ decimal m = cc in
     one_number n m (omega (arith, few)) (omega (arith, few_too)) digits
 
 -- a line asks for one task, since commands have different names
-pub one_of_line : (l : LineAt) (t u : Task) → Means l t → Means l u → t ≡ u
+pub one_of_line : (l : ArgumentsAt) (t u : Task) → Means l t → Means l u → t ≡ u
 one_of_line l Check Check a b = refl
 one_of_line l Show Show a b = refl
 one_of_line l Forest Forest a b = refl
@@ -110,7 +110,7 @@ pub one_task : (words : List Text) (t u : Task) → Asks words t → Asks words 
 one_task words t u a b = one_of_line _ t u a.1 b.1
 
 -- a line that asks for a task has `run` or `replay`, or no flag and no option
-pub means_alone : (l : LineAt) (t : Task) → Means l t
+pub means_alone : (l : ArgumentsAt) (t : Task) → Means l t
     → (l.command ≡ Some (codes "run")) ⊎ ((l.command ≡ Some (codes "replay")) ⊎ ((l.log ≡ Some (codes "false")) × (l.looks ≡ None) × (l.workers ≡ None)))
 means_alone l (Run log looks workers) m = inl (named l (Run log looks workers) m)
 means_alone l Forward m = inl (named l Forward m)
@@ -121,7 +121,7 @@ means_alone l (Big n) m = inr (inr (ap (λ k. k.log) m.0, ap (λ k. k.looks) m.0
 means_alone l t m = inr (inr (ap (λ k. k.log) m, ap (λ k. k.looks) m, ap (λ k. k.workers) m))
 
 -- it is `run` with forwarding, or asks for no forwarding
-pub means_forwarding : (l : LineAt) (t : Task) → Means l t → (l ≡ forwarding) ⊎ (l.forward ≡ Some (codes "false"))
+pub means_forwarding : (l : ArgumentsAt) (t : Task) → Means l t → (l ≡ forwarding) ⊎ (l.forward ≡ Some (codes "false"))
 means_forwarding l Forward m = inl m
 means_forwarding l (Run log looks workers) m = inr (ap (λ k. k.forward) m.0)
 means_forwarding l (Talk n) m = inr (ap (λ k. k.forward) m.0)

@@ -6,7 +6,7 @@ use Rattle.sj_command.specs.declared.tasks.Task.TheVariants.{Check, Show, Forest
 use Rattle.sj_command.specs.CommandLine.{IsTaken, text_given}
 
 -- what a line has: a command and a number, two flags and two options
-pub record LineAt : Type 0 where
+pub record ArgumentsAt : Type 0 where
   pub command : Option Text
   pub number : Option Text
   pub log : Option Text
@@ -20,29 +20,29 @@ flag_text false = codes "false"
 flag_text true = codes "true"
 
 -- a line with these parts
-abbrev pub line_with : (command number log looks workers forward : Option Text) → LineAt
-line_with command number log looks workers forward =
+abbrev pub arguments_with : (command number log looks workers forward : Option Text) → ArgumentsAt
+arguments_with command number log looks workers forward =
     record { command = command; number = number; log = log; looks = looks; workers = workers; forward = forward }
 
 -- one that asks for forwarding, or one that doesn't
-abbrev pub line_at : (forward : Bool) (command number log looks workers : Option Text) → LineAt
-line_at forward command number log looks workers = line_with command number log looks workers (Some (flag_text forward))
+abbrev pub arguments_at : (forward : Bool) (command number log looks workers : Option Text) → ArgumentsAt
+arguments_at forward command number log looks workers = arguments_with command number log looks workers (Some (flag_text forward))
 
 -- a command of that name with that number alone
-abbrev pub alone : Text → Option Text → LineAt
-alone name number = line_at false (Some name) number (Some (flag_text false)) None None
+abbrev pub alone : Text → Option Text → ArgumentsAt
+alone name number = arguments_at false (Some name) number (Some (flag_text false)) None None
 
 -- `run`, with that flag or without it, and with those options or without them
-abbrev pub running : (log : Bool) (looks workers : Option Text) → LineAt
-running log looks workers = line_at false (Some (codes "run")) None (Some (flag_text log)) looks workers
+abbrev pub running : (log : Bool) (looks workers : Option Text) → ArgumentsAt
+running log looks workers = arguments_at false (Some (codes "run")) None (Some (flag_text log)) looks workers
 
 -- `run` with forwarding, and nothing else
-abbrev pub forwarding : LineAt
-forwarding = line_at true (Some (codes "run")) None (Some (flag_text false)) None None
+abbrev pub forwarding : ArgumentsAt
+forwarding = arguments_at true (Some (codes "run")) None (Some (flag_text false)) None None
 
 -- `replay`, with that flag or without it
-abbrev pub replaying : (log : Bool) → LineAt
-replaying log = line_at false (Some (codes "replay")) None (Some (flag_text log)) None None
+abbrev pub replaying : (log : Bool) → ArgumentsAt
+replaying log = arguments_at false (Some (codes "replay")) None (Some (flag_text log)) None None
 
 -- the most messages in each loop of the generated file
 abbrev pub most_messages : ℕ
@@ -85,7 +85,7 @@ StandsForWorkers (Some text) None = ⊥
 StandsForWorkers (Some text) (Some workers) = (text ≡ decimal workers) × (1 ≤ workers) × (workers ≤ most_workers)
 
 -- the line asks for that
-abbrev pub Means : LineAt → Task → Type 0
+abbrev pub Means : ArgumentsAt → Task → Type 0
 Means line Check = line ≡ alone (codes "check") None
 Means line Show = line ≡ alone (codes "show") None
 Means line Forest = line ≡ alone (codes "forest") None
@@ -99,9 +99,9 @@ Means line (Make n) = (line ≡ alone (codes "make") (Some (decimal n))) × IsCo
 Means line (Big n) = (line ≡ alone (codes "big") (Some (decimal n))) × IsCount n
 
 -- the line that the words are
-abbrev pub line_in : List Text → LineAt
+abbrev pub line_in : List Text → ArgumentsAt
 line_in words =
-    line_with (text_given (codes "command") words) (text_given (codes "number") words) (text_given (codes "log") words)
+    arguments_with (text_given (codes "command") words) (text_given (codes "number") words) (text_given (codes "log") words)
     (text_given (codes "looks") words) (text_given (codes "workers") words) (text_given (codes "forward") words)
 
 -- the words ask for that

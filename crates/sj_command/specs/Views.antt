@@ -1,10 +1,10 @@
 -- How a line looks to definitions.
 use Rattle.std.specs.Option.{option_map}
 use Rattle.sj_command.specs.declared.parts.Line.{Line}
-use Rattle.sj_command.specs.Task.{LineAt}
+use Rattle.sj_command.specs.Task.{ArgumentsAt}
 
 -- the texts of its parts
-abbrev pub line_of : Line → LineAt
+abbrev pub line_of : Line → ArgumentsAt
 line_of l = record {
   command = option_map (λ s. s.now) l.command;
   number = option_map (λ s. s.now) l.number;

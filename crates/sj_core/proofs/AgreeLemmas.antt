@@ -9,7 +9,7 @@ use Rattle.sj_rules.specs.Node.{NodeAt}
 use Rattle.sj_rules.specs.Rows.{Worked}
 use Rattle.sj_rules.specs.World.{Turn, WorldAt}
 use Rattle.sj_node.specs.declared.node.Node.{Node}
-use Rattle.sj_node.specs.Node.{act_of, stop_of, wants_of}
+use Rattle.sj_node.specs.Node.{act_of, node_halt, wants_of}
 use Rattle.sj_node.specs.Unfit.{Agrees, Misfit, misfit_of}
 use Rattle.sj_node.proofs.LetsLemmas.{act_agrees}
 use Rattle.sj_node.proofs.UnfitLemmas.{no_act}
@@ -20,7 +20,7 @@ use Rattle.sj_core.proofs.UnfitLemmas.{here, own_act, own_acts, own_play}
 use Rattle.sj_core.proofs.LawLemmas.{run_of}
 
 module _ (file : FileAt) (turns : List Turn) (core : WorldAt Place Program) (p : ℕ) (n : Node) (accepted : IsAccepted file) (run : IsCoreRun file turns core) (own : IsNodeOf file core p n)
-    (free : stop_of n ≡ None) where
+    (free : node_halt n ≡ None) where
   has_act : (left : Worked Place (NodeAt Place Program)) × (act_of n ≡ Some left)
   has_act =
       let done = own_acts file accepted turns core run p n own.here own.party own.play free in
@@ -37,7 +37,7 @@ module _ (file : FileAt) (turns : List Turn) (core : WorldAt Place Program) (p :
   run_fits = no_misfit (misfit_of n) refl
 
 -- so it is in a world to which lines lead
-pub world_agrees : (c : NodeWorld) (led : IsLed c) (p : ℕ) (n : Node) → slice_get (nodes_in c) p ≡ Some n → stop_of n ≡ None → Agrees n (wants_of n)
+pub world_agrees : (c : NodeWorld) (led : IsLed c) (p : ℕ) (n : Node) → slice_get (nodes_in c) p ≡ Some n → node_halt n ≡ None → Agrees n (wants_of n)
 world_agrees c led p n there free =
     run_agrees led.accepted.file (map turn_of led.past) (world_in c) p n led.accepted.accepted (run_of c led)
     (record { here = here c led p n there; party = (led.seats.each p n there).party; play = own_play c led p n there }) free

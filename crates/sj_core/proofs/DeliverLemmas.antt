@@ -10,7 +10,7 @@ use Rattle.sj_table.specs.declared.table.Table.{Table}
 use Rattle.sj_end.specs.Views.{body_at, frame_at, note_at}
 use Rattle.sj_end.specs.declared.note.Entry.{Entry}
 use Rattle.sj_end.specs.declared.note.Event.TheVariants as events
-use Rattle.sj_end.specs.declared.wire.Frame.{Frame}
+use Rattle.sj_end.specs.declared.frames.Frame.{Frame}
 use Rattle.sj_rules.specs.Frames.{FrameAt, frames_for, is_proper, is_within}
 use Rattle.sj_rules.specs.Record.{BodyAt, Carry, Fin, Claim, Signal, Ack, Give, Open}
 use Rattle.sj_rules.specs.Mapped.{body_with, frame_with}

@@ -19,7 +19,7 @@ use Rattle.sj_rules.specs.World as rules
 use Rattle.sj_rules.specs.World.{WorldAt, after_event, delivery_of, happens, with_lane}
 use Rattle.sj_node.specs.declared.node.Node.{Node}
 use Rattle.sj_node.specs.declared.refusal.Halt.{Halt}
-use Rattle.sj_node.specs.Node.{act_note, clock_of, due_if, due_of, note_for, stop_of}
+use Rattle.sj_node.specs.Node.{act_note, clock_of, due_if, due_of, note_for, node_halt}
 use Rattle.sj_node.specs.Outs.{waiting_in}
 use Rattle.sj_node.specs.Play.{next_want}
 use Rattle.sj_node.specs.Reading.{outs_of}
@@ -50,7 +50,7 @@ module _ (c : NodeWorld) (led : IsLed c) (p : ℕ) (n : Node) (there : slice_get
   abbrev play : Play Place Program
   play = play_of (file_in c)
 
-  act_by : (o : Option Halt) → stop_of n ≡ o → due play max w p rules.Act ≡ option_map (line_with p) (due_if o (record { clock = clock_of n + 1; event = events.Act; note = note_for n }))
+  act_by : (o : Option Halt) → node_halt n ≡ o → due play max w p rules.Act ≡ option_map (line_with p) (due_if o (record { clock = clock_of n + 1; event = events.Act; note = note_for n }))
   act_by (Some k) stop = ap (option_and_then (line_after play w p rules.Act)) (no_step_where c led p n there k stop)
   act_by None free =
       let done = acts_here c led p n there free in
@@ -64,7 +64,7 @@ module _ (c : NodeWorld) (led : IsLed c) (p : ℕ) (n : Node) (there : slice_get
 
   -- of its act
   pub act_due : due play max w p rules.Act ≡ option_map (line_with p) (due_of n)
-  act_due = act_by (stop_of n) refl
+  act_due = act_by (node_halt n) refl
 
   module _ (q : ℕ) (giver : Node) (origin : slice_get (nodes_in c) q ≡ Some giver) where
     lane : (fs : List (FrameAt Spot)) → waiting_in (outs_of giver) p ≡ fs → w.lanes q p ≡ map (frame_with (place_in giver.table)) fs

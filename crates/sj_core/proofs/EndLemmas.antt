@@ -6,7 +6,7 @@ use Rattle.sj_acceptance.specs.Accepted.{IsAccepted}
 use Rattle.sj_semantics.specs.Program.{Program}
 use Rattle.sj_semantics.specs.Run.{IsRun, end_of, rounds}
 use Rattle.sj_semantics.specs.World.{World}
-use Rattle.sj_plain.specs.Kept.{without_words}
+use Rattle.sj_plain.specs.SharedFile.{without_words}
 use Rattle.sj_plain.proofs.BeginLemmas.{start_same}
 use Rattle.sj_rules.specs.Events.{acts_in}
 use Rattle.sj_rules.specs.History.{IsHistory, IsLog, IsQuietAmong, turn_of}

@@ -3,7 +3,7 @@ use Rattle.std.proofs.Common.{◌≡◌, ◌⊎◌, ℕ, zero, suc, ◌+◌, Lis
 use Rattle.sj_lang.specs.Place.{Place}
 use Rattle.sj_lang.specs.FileAt.{FileAt, body_named}
 use Rattle.sj_semantics.specs.Program.{Program}
-use Rattle.sj_plain.specs.Kept.{without_words}
+use Rattle.sj_plain.specs.SharedFile.{without_words}
 use Rattle.sj_plain.proofs.BeginLemmas.{start_same}
 use Rattle.sj_rules.specs.History.{IsHistory, IsLog, IsMisfit}
 use Rattle.sj_rules.specs.Log.{LineAt}

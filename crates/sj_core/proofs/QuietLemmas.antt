@@ -11,7 +11,7 @@ use Rattle.sj_rules.specs.Node.{acts}
 use Rattle.sj_rules.specs.Party.{play_of}
 use Rattle.sj_node.specs.declared.node.Node.{Node}
 use Rattle.sj_node.specs.declared.refusal.Halt.{Halt}
-use Rattle.sj_node.specs.Node.{due_if, due_of, stop_of}
+use Rattle.sj_node.specs.Node.{due_if, due_of, node_halt}
 use Rattle.sj_node.specs.Outs.{waiting_in}
 use Rattle.sj_node.specs.Reading.{outs_of}
 use Rattle.sj_end.specs.declared.note.Entry.{Entry}
@@ -25,16 +25,16 @@ none_if : (o : Option Halt) (k : Halt) (e : Entry) → o ≡ Some k → due_if o
 none_if o k e is = ap (λ (x : Option Halt). due_if x e) is
 
 module _ (c : NodeWorld) (led : IsLed c) (p : ℕ) (n : Node) (there : slice_get (nodes_in c) p ≡ Some n) where
-  none_by : (o : Option Halt) (e : Entry) → stop_of n ≡ o → due_if o e ≡ None → acts (play_of (file_in c)) p ((world_in c).nodes p) ≡ None
+  none_by : (o : Option Halt) (e : Entry) → node_halt n ≡ o → due_if o e ≡ None → acts (play_of (file_in c)) p ((world_in c).nodes p) ≡ None
   none_by None e stop none = absurd (cc none)
   none_by (Some k) e stop none = none_where c led p n there k stop
 
   -- its node knows whether it can act
   pub still_of : due_of n ≡ None → acts (play_of (file_in c)) p ((world_in c).nodes p) ≡ None
-  still_of none = none_by (stop_of n) _ refl none
+  still_of none = none_by (node_halt n) _ refl none
 
   pub due_of_still : acts (play_of (file_in c)) p ((world_in c).nodes p) ≡ None → due_of n ≡ None
-  due_of_still none = let s = stopped c led p n there none in none_if (stop_of n) s.0 _ s.1
+  due_of_still none = let s = stopped c led p n there none in none_if (node_halt n) s.0 _ s.1
 
 module _ (c : NodeWorld) (q : ℕ) (giver : Node) (origin : slice_get (nodes_in c) q ≡ Some giver) (p : ℕ) where
   lane_as : (fs : List (FrameAt Spot)) → waiting_in (outs_of giver) p ≡ fs → (world_in c).lanes q p ≡ map (frame_with (place_in giver.table)) fs

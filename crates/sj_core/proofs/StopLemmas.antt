@@ -16,7 +16,7 @@ use Rattle.sj_node.specs.declared.node.Node.{Node}
 use Rattle.sj_node.specs.declared.refusal.Halt.{Halt}
 use Rattle.sj_node.specs.declared.refusal.Halt.TheVariants as halts
 use Rattle.sj_node.specs.Halts.{hold_up, names_awaited, stop_by, stop_wanting}
-use Rattle.sj_node.specs.Node.{act_of, offers_of, requests_of, spot_node, steps_of, stop_of, wants_of}
+use Rattle.sj_node.specs.Node.{act_of, offers_of, requests_of, spot_node, steps_of, node_halt, wants_of}
 use Rattle.sj_node.specs.Slots.{mains_in}
 use Rattle.sj_core.specs.declared.node_world.NodeWorld.{NodeWorld}
 use Rattle.sj_core.specs.NodeWorld.{IsLed, file_in, nodes_in, world_in}
@@ -68,19 +68,19 @@ error_is x y h = cc h
 module _ (c : NodeWorld) (led : IsLed c) (p : ℕ) (n : Node) (there : slice_get (nodes_in c) p ≡ Some n) where
   -- nothing stops it, or something other than being out of memory does
   abbrev pub Stopped : Type 0
-  Stopped = (k : Halt) × (stop_of n ≡ Some k) × IsStop k
+  Stopped = (k : Halt) × (node_halt n ≡ Some k) × IsStop k
 
   -- no act by the rules, where something stops it
-  pub none_where : (k : Halt) → stop_of n ≡ Some k → acts (play_of (file_in c)) p ((world_in c).nodes p) ≡ None
+  pub none_where : (k : Halt) → node_halt n ≡ Some k → acts (play_of (file_in c)) p ((world_in c).nodes p) ≡ None
   none_where k is = ap (acts (play_of (file_in c)) p) (here c led p n there) ∙ halted (place_in n.table) (length (file_in c).parties) (file_in c).protocols p (spot_node n) k is
 
-  pub no_step_where : (k : Halt) → stop_of n ≡ Some k → happens (play_of (file_in c)) max (world_in c) p rules.Act ≡ None
+  pub no_step_where : (k : Halt) → node_halt n ≡ Some k → happens (play_of (file_in c)) max (world_in c) p rules.Act ≡ None
   no_step_where k is = let w = world_in c in ap (option_map (after_event w p ((w.nodes p).clock + 1) w.lanes)) (none_where k is)
 
-  stop_here : (k : Halt) → stop_of n ≡ Some k → IsStop k
+  stop_here : (k : Halt) → node_halt n ≡ Some k → IsStop k
   stop_here k is = stop_is (mains_in n.mains.items) (requests_of n) (offers_of n) (steps_of n) (wants_of n) k is
 
-  stopped_by : (o : Option Halt) → stop_of n ≡ o → acts (play_of (file_in c)) p ((world_in c).nodes p) ≡ None → Stopped
+  stopped_by : (o : Option Halt) → node_halt n ≡ o → acts (play_of (file_in c)) p ((world_in c).nodes p) ≡ None → Stopped
   stopped_by None free none =
       let done = acts_here c led p n there free in
       let e : Some done.0 ≡ None = sym done.1 ∙ none in absurd (cc e)
@@ -88,28 +88,28 @@ module _ (c : NodeWorld) (led : IsLed c) (p : ℕ) (n : Node) (there : slice_get
 
   -- where the rules have no act, something stops it
   pub stopped : acts (play_of (file_in c)) p ((world_in c).nodes p) ≡ None → Stopped
-  stopped none = stopped_by (stop_of n) refl none
+  stopped none = stopped_by (node_halt n) refl none
 
   none_before : {A B : Type 0} → (f : A → B) (o : Option A) → option_map f o ≡ None → o ≡ None
   none_before f None h = refl
   none_before f (Some x) h = absurd (cc h)
 
   -- the node answered that halt
-  module _ (h : Halt) (ended : stop_of n ≡ Some halts.Ended → h ≡ halts.Ended) (limit : stop_of n ≡ Some halts.AtLimit → h ≡ halts.AtLimit) (waits : stop_of n ≡ Some halts.Waits → h ≡ halts.Waits) where
-    answers : (k : Halt) → stop_of n ≡ Some k → IsStop k → IsStop h
+  module _ (h : Halt) (ended : node_halt n ≡ Some halts.Ended → h ≡ halts.Ended) (limit : node_halt n ≡ Some halts.AtLimit → h ≡ halts.AtLimit) (waits : node_halt n ≡ Some halts.Waits → h ≡ halts.Waits) where
+    answers : (k : Halt) → node_halt n ≡ Some k → IsStop k → IsStop h
     answers halts.Ended is stop = subst IsStop (sym (ended is)) tt
     answers halts.AtLimit is stop = subst IsStop (sym (limit is)) tt
     answers halts.Waits is stop = subst IsStop (sym (waits is)) tt
     answers halts.NoMemory is stop = absurd stop
     answers halts.Unfit is stop = absurd stop
 
-    unfit_by : (o : Option Halt) → stop_of n ≡ o → act_of n ≡ None → h ≡ halts.Unfit → ⊥
+    unfit_by : (o : Option Halt) → node_halt n ≡ o → act_of n ≡ None → h ≡ halts.Unfit → ⊥
     unfit_by None free none is = never_unfit c led p n there free none
     unfit_by (Some k) stop none is = subst IsStop is (answers k stop (stop_here k stop))
 
     -- it isn't unfit
     pub not_unfit : (h ≡ halts.Unfit → act_of n ≡ None) → h ≡ halts.Unfit → ⊥
-    not_unfit none is = unfit_by (stop_of n) refl (none is) is
+    not_unfit none is = unfit_by (node_halt n) refl (none is) is
 
     -- the answer isn't out of memory, where the act is illegal
     pub stops : happens (play_of (file_in c)) max (world_in c) p rules.Act ≡ None → IsStop h
@@ -119,7 +119,7 @@ module _ (c : NodeWorld) (led : IsLed c) (p : ℕ) (n : Node) (there : slice_get
         answers s.0 s.1 s.2
 
     -- and conversely
-    pub no_step_of : IsStop h → (h ≡ halts.Ended → stop_of n ≡ Some halts.Ended) → (h ≡ halts.AtLimit → stop_of n ≡ Some halts.AtLimit) → (h ≡ halts.Waits → stop_of n ≡ Some halts.Waits)
+    pub no_step_of : IsStop h → (h ≡ halts.Ended → node_halt n ≡ Some halts.Ended) → (h ≡ halts.AtLimit → node_halt n ≡ Some halts.AtLimit) → (h ≡ halts.Waits → node_halt n ≡ Some halts.Waits)
         → happens (play_of (file_in c)) max (world_in c) p rules.Act ≡ None
     no_step_of stop e l w = by h refl stop
       where

@@ -26,7 +26,7 @@ use Rattle.sj_rules.specs.World.{Turn, WorldAt}
 use Rattle.sj_rules_laws.proofs.LimitLemmas.{core_run_few, core_run_known}
 use Rattle.sj_node.specs.declared.node.Node.{Node}
 use Rattle.sj_node.specs.declared.slots.Main.{Main}
-use Rattle.sj_node.specs.Node.{act_of, has_room, is_below_count, node_at, play_here, spot_node, stop_of, wants_of}
+use Rattle.sj_node.specs.Node.{act_of, has_room, is_below_count, node_at, play_here, spot_node, node_halt, wants_of}
 use Rattle.sj_node.specs.Reading.{party_of}
 use Rattle.sj_node.specs.Play.{HeadsAre, is_number, names_known, play_with}
 use Rattle.sj_node.specs.Slots.{look, main_at}
@@ -116,11 +116,11 @@ module _ (file : FileAt) (accepted : IsAccepted file) (turns : List Turn) (core 
       ∙ (λ i. acts (play_for (length file.parties) ps) (party i) (sym here i))
 
   -- where nothing stops it
-  pub own_acts : stop_of n ≡ None → (done : Worked Place (NodeAt Place Program)) × (acts (play_of_file file) p (core.nodes p) ≡ Some done)
+  pub own_acts : node_halt n ≡ None → (done : Worked Place (NodeAt Place Program)) × (acts (play_of_file file) p (core.nodes p) ≡ Some done)
   own_acts free = acts_freely file accepted turns core run p (place_in n.table) (spot_node n) here free
 
   -- an act of it is never unfit
-  pub own_never_unfit : stop_of n ≡ None → act_of n ≡ None → ⊥
+  pub own_never_unfit : node_halt n ≡ None → act_of n ≡ None → ⊥
   own_never_unfit free none =
       let done = own_acts free in
       let e : Some done.0 ≡ None = sym done.1 ∙ sym own_act ∙ none in
@@ -148,11 +148,11 @@ module _ (c : NodeWorld) (led : IsLed c) (p : ℕ) (n : Node) (there : slice_get
       ∙ ap (λ (f : FileAt). play_with (body_named f.protocols) (length f.connects) (length f.parties)) led.accepted.same
 
   -- where nothing stops it
-  pub acts_here : stop_of n ≡ None → (done : Worked Place (NodeAt Place Program)) × (acts (play_of_file (file_in c)) p ((world_in c).nodes p) ≡ Some done)
+  pub acts_here : node_halt n ≡ None → (done : Worked Place (NodeAt Place Program)) × (acts (play_of_file (file_in c)) p ((world_in c).nodes p) ≡ Some done)
   acts_here free =
       let done = own_acts file led.accepted.accepted (map turn_of led.past) (world_in c) run p n here seat.party own_play free in
       (done.0, (λ i. acts (play_of_file (led.accepted.same i)) p ((world_in c).nodes p)) ∙ done.1)
 
   -- an act is never unfit
-  pub never_unfit : stop_of n ≡ None → act_of n ≡ None → ⊥
+  pub never_unfit : node_halt n ≡ None → act_of n ≡ None → ⊥
   never_unfit = own_never_unfit file led.accepted.accepted (map turn_of led.past) (world_in c) run p n here seat.party own_play

@@ -4,7 +4,7 @@ use Rattle.sj_lang.specs.Place.{Place}
 use Rattle.sj_lang.specs.FileAt.{FileAt}
 use Rattle.sj_semantics.specs.Program.{Program}
 use Rattle.sj_acceptance.specs.Accepted.{IsAccepted}
-use Rattle.sj_plain.specs.Kept.{file_kept, without_words}
+use Rattle.sj_plain.specs.SharedFile.{file_kept, without_words}
 use Rattle.sj_node.specs.declared.node.Node.{Node}
 use Rattle.sj_rules.specs.History.{IsHistory, due}
 use Rattle.sj_rules.specs.Log.{LineAt}

@@ -4,7 +4,7 @@ use Rattle.sj_acceptance.specs.Accepted.{IsAccepted}
 use Rattle.sj_lang.specs.FileAt.{FileAt}
 use Rattle.sj_node.specs.declared.node.Node.{Node}
 use Rattle.sj_node.specs.Node.{requests_of, steps_of, wants_of}
-use Rattle.sj_plain.specs.Kept.{without_words}
+use Rattle.sj_plain.specs.SharedFile.{without_words}
 use Rattle.sj_rules.specs.History.{IsHistory, IsQuietAmong}
 use Rattle.sj_rules.specs.Party.{play_of}
 use Rattle.sj_told.specs.declared.told.Stand.{Stand}

@@ -6,7 +6,7 @@ ghost use Rattle.sj_core.specs.Nodes.{IsNodeOf};
 ghost use Rattle.sj_core.specs.declared.node_world.NodeWorld.{NodeWorld};
 ghost use Rattle.sj_lang.specs.FileAt.{FileAt};
 ghost use Rattle.sj_lang.specs.Place.{Place};
-ghost use Rattle.sj_node.specs.Node.{stop_of, wants_of};
+ghost use Rattle.sj_node.specs.Node.{node_halt, wants_of};
 ghost use Rattle.sj_node.specs.Unfit.{Agrees, misfit_of};
 ghost use Rattle.sj_node.specs.declared.node.Node.{Node};
 ghost use Rattle.sj_rules.specs.History.{IsCoreRun};
@@ -19,10 +19,10 @@ ghost use Rattle.sj_semantics.specs.Program.{Program};
 pub fn each_node_agrees_with_its_next_step()
     ensures run { (file : FileAt) (turns : List Turn) (core : WorldAt Place Program) (p : ℕ) (n : Node) →
         IsAccepted file → IsCoreRun file turns core → IsNodeOf file core p n →
-        stop_of n ≡ None → Agrees n (wants_of n) }
+        node_halt n ≡ None → Agrees n (wants_of n) }
     ensures fits { (file : FileAt) (turns : List Turn) (core : WorldAt Place Program) (p : ℕ) (n : Node) →
         IsAccepted file → IsCoreRun file turns core → IsNodeOf file core p n →
-        stop_of n ≡ None → misfit_of n ≡ None }
+        node_halt n ≡ None → misfit_of n ≡ None }
     ensures world { (c : NodeWorld) (p : ℕ) (n : Node) → IsReached c →
-        slice_get (nodes_in c) p ≡ Some n → stop_of n ≡ None → Agrees n (wants_of n) }
+        slice_get (nodes_in c) p ≡ Some n → node_halt n ≡ None → Agrees n (wants_of n) }
 {}

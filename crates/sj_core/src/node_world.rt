@@ -12,14 +12,14 @@ ghost use Rattle.sj_rules.specs.World.{happens};
 use crate::StepRefusal;
 use sj_end::{Entry, Event, Line};
 use sj_node::{DeliverRefusal, Halt, Node};
-use sj_plain::Kept;
+use sj_plain::SharedFile;
 use std::alloc::Global;
 
 /// A file, the nodes of its parties, and what happened so far.
 #[derive(Drop)]
 pub struct NodeWorld {
     pub alloc: Global,
-    pub kept: Kept,
+    pub kept: SharedFile,
     pub nodes: Vec<Node>,
     pub history: Vec<Line>,
 }

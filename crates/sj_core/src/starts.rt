@@ -5,7 +5,7 @@ ghost use Rattle.sj_core.specs.Nodes.{AreFirst};
 ghost use Rattle.sj_core.specs.Replaying.{IsMisfitFrom};
 ghost use Rattle.sj_core.specs.Views.{line_at};
 ghost use Rattle.sj_lang.specs.FileView.{file_of};
-ghost use Rattle.sj_plain.specs.Kept.{without_words};
+ghost use Rattle.sj_plain.specs.SharedFile.{without_words};
 ghost use Rattle.sj_rules.specs.Start.{core_start};
 
 use crate::ReplayRefusal;
@@ -15,7 +15,7 @@ use sj_base::NoMemory;
 use sj_check::Accepted;
 use sj_end::Line;
 use sj_node::Node;
-use sj_plain::Kept;
+use sj_plain::SharedFile;
 use std::alloc::Global;
 
 /// The nodes of all parties before any event, by the parties' numbers. Frames carry spots from node
@@ -46,7 +46,7 @@ impl NodeWorld {
         ensures world { IfOk result (λ c. world_in c ≡ core_start (file_of (held accepted.now))) }
     {
         let nodes = first_nodes(alloc, accepted)?;
-        let kept = Kept::of(accepted)?;
+        let kept = SharedFile::of(accepted)?;
         let history = Vec::new(alloc);
         Ok(NodeWorld {
             alloc,
@@ -78,7 +78,7 @@ impl NodeWorld {
         ensures history { IfOk result (λ c. history_in c ≡ map line_at history.items) }
         ensures nodes { IfOk result (λ c. nodes_in c ≡ nodes.items) }
     {
-        let kept = Kept::of(accepted)?;
+        let kept = SharedFile::of(accepted)?;
         Ok(NodeWorld {
             alloc,
             kept,

@@ -3,7 +3,7 @@ use Rattle.std.proofs.Common.{◌≡◌, ℕ, ◌+◌, Bool, true, false, List, 
 use Rattle.std.proofs.lemmas.List.{map-append}
 use Rattle.std.specs.List.{filter_map, cons_option}
 use Rattle.sj_draw.specs.Chart.{ArrowAt, ChartAt, Outcome, Gathered, Unread, Beyond, empty, outcome_with, then_on, gathered, is_within, with_line, with_any, with_party, with_session, arrow_of, request_of}
-use Rattle.sj_draw.specs.Lines.{LineAt, Session, Opened, Party, Message, Delivery, Log, Verdict, read}
+use Rattle.sj_draw.specs.Lines.{DrawnLineAt, Session, Opened, Party, Message, Delivery, Log, Verdict, read}
 use Rattle.sj_draw.specs.Told.{ToldAt, told_arrow, told_by, told_in, is_log, HasNoLog}
 
 pub any_arrows : (f : ChartAt) (name : Option (List ℕ)) → (with_any f name).arrows ≡ f.arrows
@@ -15,7 +15,7 @@ pushed : (xs ys : List ArrowAt) (a : ArrowAt) → xs ≡ ys → map told_arrow (
 pushed xs ys a e = ap (λ zs. map told_arrow (zs ++ a ∷ [])) e ∙ map-append told_arrow ys (a ∷ [])
 
 -- what a line adds
-added : (f : ChartAt) (x : LineAt) → is_log (Some x) ≡ false → map told_arrow (with_line f x).arrows ≡ map told_arrow f.arrows ++ cons_option (told_by (Some x)) []
+added : (f : ChartAt) (x : DrawnLineAt) → is_log (Some x) ≡ false → map told_arrow (with_line f x).arrows ≡ map told_arrow f.arrows ++ cons_option (told_by (Some x)) []
 added f (Session s) h = sym (append-nil (map told_arrow f.arrows))
 added f (Opened s) h =
     let g = with_session (with_party (with_party f s.first_party) s.second_party) s in pushed g.arrows f.arrows (arrow_of g (request_of s)) refl
@@ -44,7 +44,7 @@ goes_on false k g n next e = cc
 
 module _ (f g : ChartAt) (n : ℕ) (next : ChartAt → Outcome) (ts : List ToldAt)
     (and_then : (k : ChartAt) → next k ≡ Gathered g → map told_arrow g.arrows ≡ map told_arrow k.arrows ++ ts) where
-  by_line : (o : Option LineAt) → is_log o ≡ false → then_on (outcome_with f n o) next ≡ Gathered g → map told_arrow g.arrows ≡ map told_arrow f.arrows ++ cons_option (told_by o) ts
+  by_line : (o : Option DrawnLineAt) → is_log o ≡ false → then_on (outcome_with f n o) next ≡ Gathered g → map told_arrow g.arrows ≡ map told_arrow f.arrows ++ cons_option (told_by o) ts
   by_line None h e = cc
   by_line (Some x) h e =
       and_then (with_line f x) (goes_on (is_within (with_line f x)) (with_line f x) g n next e)

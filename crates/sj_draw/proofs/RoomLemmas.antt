@@ -3,17 +3,17 @@ use Rattle.std.proofs.Common.{◌≡◌, ℕ, ◌+◌, ◌≤◌, Bool, true, fa
 use Rattle.std.proofs.lemmas.List.{length-append}
 use Rattle.std.specs.List.{AllByRecursion, filter}
 use Rattle.sj_draw.specs.Chart.{ArrowAt, ChartAt, Outcome, Gathered, Unread, Beyond, empty, outcome_with, then_on, gathered, is_within, is_untaken, with_line, with_any, with_party, with_session, with_arrow, arrow_of, request_of, number_of}
-use Rattle.sj_draw.specs.Lines.{LineAt, Session, Opened, Party, Message, Delivery, Log, Verdict, read}
+use Rattle.sj_draw.specs.Lines.{DrawnLineAt, Session, Opened, Party, Message, Delivery, Log, Verdict, read}
 use Rattle.sj_draw.proofs.OnceLemmas.{any_arrows}
 
 -- what holds of a chart and a number of lines holds after further lines, where each line keeps it
-module _ (P : ℕ → ChartAt → Type 0) (step : (k : ℕ) (f : ChartAt) (x : LineAt) → P k f → is_within (with_line f x) ≡ true → P (k + 1) (with_line f x)) where
+module _ (P : ℕ → ChartAt → Type 0) (step : (k : ℕ) (f : ChartAt) (x : DrawnLineAt) → P k f → is_within (with_line f x) ≡ true → P (k + 1) (with_line f x)) where
   by_test : (b : Bool) (k n : ℕ) (f g h : ChartAt) (m : ℕ) (next : ChartAt → Outcome) → (b ≡ true → P (k + 1) h) → ((j : ChartAt) → P (k + 1) j → next j ≡ Gathered g → P m g)
       → then_on (if b then Gathered h else Beyond n) next ≡ Gathered g → P m g
   by_test true k n f g h m next p and_then e = and_then h (p refl) e
   by_test false k n f g h m next p and_then e = cc
 
-  by_line : (o : Option LineAt) (k n : ℕ) (f g : ChartAt) (m : ℕ) (next : ChartAt → Outcome) → P k f → ((j : ChartAt) → P (k + 1) j → next j ≡ Gathered g → P m g)
+  by_line : (o : Option DrawnLineAt) (k n : ℕ) (f g : ChartAt) (m : ℕ) (next : ChartAt → Outcome) → P k f → ((j : ChartAt) → P (k + 1) j → next j ≡ Gathered g → P m g)
       → then_on (outcome_with f n o) next ≡ Gathered g → P m g
   by_line None k n f g m next p and_then e = cc
   by_line (Some x) k n f g m next p and_then e = by_test (is_within (with_line f x)) k n f g (with_line f x) m next (step k f x p) and_then e
@@ -84,7 +84,7 @@ of_arrow f a r =
     let m = max f.texts (length a.name + length a.text) in
     record { parties = r.parties; arrows = one_more (λ x. length x.name + length x.text ≤ m) f.arrows a (wider (λ x. length x.name + length x.text) f.texts m f.arrows (omega arith) r.arrows) (omega arith) }
 
-of_line : (f : ChartAt) (x : LineAt) → Rooms f → Rooms (with_line f x)
+of_line : (f : ChartAt) (x : DrawnLineAt) → Rooms f → Rooms (with_line f x)
 of_line f (Session s) r = let q = of_party (with_party f s.first_party) s.second_party (of_party f s.first_party r) in record { parties = q.parties; arrows = q.arrows }
 of_line f (Opened s) r =
     let q = of_party (with_party f s.first_party) s.second_party (of_party f s.first_party r) in
@@ -98,7 +98,7 @@ of_line f Verdict r = r
 one_longer : (xs ys : List ArrowAt) (a : ArrowAt) (k : ℕ) → xs ≡ ys → length ys ≤ k → length (xs ++ a ∷ []) ≤ k + 1
 one_longer xs ys a k e h = omega (arith, length-append xs (a ∷ []), ap (λ (zs : List ArrowAt). length zs) e, h)
 
-few_more : (k : ℕ) (f : ChartAt) (x : LineAt) → length f.arrows ≤ k → length (with_line f x).arrows ≤ k + 1
+few_more : (k : ℕ) (f : ChartAt) (x : DrawnLineAt) → length f.arrows ≤ k → length (with_line f x).arrows ≤ k + 1
 few_more k f (Session s) h = omega (arith, h)
 few_more k f (Opened s) h =
     let g = with_session (with_party (with_party f s.first_party) s.second_party) s in one_longer g.arrows f.arrows (arrow_of g (request_of s)) k refl h
@@ -108,7 +108,7 @@ few_more k f (Delivery p) h = let g = with_party (with_any f p.to) p.from in one
 few_more k f Log h = omega (arith, fewer is_untaken f.arrows, h)
 few_more k f Verdict h = omega (arith, h)
 
-line_roomy : (k : ℕ) (f : ChartAt) (x : LineAt) → IsRoomy k f → is_within (with_line f x) ≡ true → IsRoomy (k + 1) (with_line f x)
+line_roomy : (k : ℕ) (f : ChartAt) (x : DrawnLineAt) → IsRoomy k f → is_within (with_line f x) ≡ true → IsRoomy (k + 1) (with_line f x)
 line_roomy k f x r w =
     let q = of_line f x (record { parties = r.parties; arrows = r.arrows }) in
     record { parties = q.parties; arrows = q.arrows; few = few_more k f x r.few; within = w }

@@ -4,7 +4,7 @@ use Rattle.std.specs.Option.{option_map}
 use Rattle.std.specs.Str.{bytes_eq}
 use Rattle.sj_draw.specs.declared.lines.Mark.{Mark}
 use Rattle.sj_draw.specs.declared.lines.Mark.TheVariants.{Request}
-use Rattle.sj_draw.specs.Lines.{SessionAt, PassedAt, LineAt, Session, Opened, Party, Message, Delivery, Log, Verdict, read}
+use Rattle.sj_draw.specs.Lines.{SessionAt, PassedAt, DrawnLineAt, Session, Opened, Party, Message, Delivery, Log, Verdict, read}
 use Rattle.sj_draw.specs.Words.{before}
 
 -- an arrow between the lines of two parties, by their numbers; to none
@@ -105,7 +105,7 @@ is_untaken a = is_none a.to
 
 -- what a line adds. The arrows of an opened session begin with that of its request. Where a log
 -- begins, the arrows of messages that were taken go, since the log has their frames
-abbrev pub with_line : ChartAt → LineAt → ChartAt
+abbrev pub with_line : ChartAt → DrawnLineAt → ChartAt
 with_line f (Session s) = with_session (with_party (with_party f s.first_party) s.second_party) s
 with_line f (Opened s) = with_passed (with_session (with_party (with_party f s.first_party) s.second_party) s) (request_of s)
 with_line f (Party name) = with_party f name
@@ -144,7 +144,7 @@ pub data Outcome : Type 0 where
   Unread : ℕ → Outcome
   Beyond : ℕ → Outcome
 
-abbrev pub outcome_with : ChartAt → ℕ → Option LineAt → Outcome
+abbrev pub outcome_with : ChartAt → ℕ → Option DrawnLineAt → Outcome
 outcome_with f n None = Unread n
 outcome_with f n (Some line) = if is_within (with_line f line) then Gathered (with_line f line) else Beyond n
 

@@ -28,14 +28,14 @@ pub record PassedAt : Type 0 where
   pub text : List ℕ
 
 -- what a line says
-pub data LineAt : Type 0 where
-  Session : SessionAt → LineAt
-  Opened : SessionAt → LineAt
-  Party : List ℕ → LineAt
-  Message : PassedAt → LineAt
-  Delivery : PassedAt → LineAt
-  Log : LineAt
-  Verdict : LineAt
+pub data DrawnLineAt : Type 0 where
+  Session : SessionAt → DrawnLineAt
+  Opened : SessionAt → DrawnLineAt
+  Party : List ℕ → DrawnLineAt
+  Message : PassedAt → DrawnLineAt
+  Delivery : PassedAt → DrawnLineAt
+  Log : DrawnLineAt
+  Verdict : DrawnLineAt
 
 -- one mark where the words are these
 abbrev pub mark_if : Bool → Mark → Option Mark
@@ -79,7 +79,7 @@ abbrev pub is_first : List ℕ → Bool
 is_first end = bytes_eq (behind 46 end) (codes "0")
 
 -- a frame that came to the party: from whom, and what it says
-abbrev pub frame_line : List ℕ → List ℕ → Option LineAt
+abbrev pub frame_line : List ℕ → List ℕ → Option DrawnLineAt
 frame_line to rest =
     let text = words_behind rest in
     if length (word rest) == 0 then None
@@ -93,7 +93,7 @@ is_act verb rest =
     else (if bytes_eq verb (codes "send") || bytes_eq verb (codes "take") then is_some (mark_behind (End ∷ []) rest) else false)
 
 -- a session is opened to a party, or accepted from one
-abbrev pub opening : Mark → Bool → List ℕ → List ℕ → Option LineAt
+abbrev pub opening : Mark → Bool → List ℕ → List ℕ → Option DrawnLineAt
 opening mark first party deed =
     let rest = words_behind deed in
     if is_just (Number ∷ Name ∷ []) rest
@@ -101,7 +101,7 @@ opening mark first party deed =
     else None
 
 -- the same by what the party did: a request is drawn at its own end, an accept at the other
-abbrev pub opening_line : List ℕ → List ℕ → Option LineAt
+abbrev pub opening_line : List ℕ → List ℕ → Option DrawnLineAt
 opening_line party deed =
     if bytes_eq (word deed) (codes "request") then opening marks.Request true party deed
     else (if bytes_eq (word deed) (codes "accept") then opening marks.Accept false party deed
@@ -109,7 +109,7 @@ opening_line party deed =
 
 -- an event at a party: a frame that came, or what the party did, which only names it
 -- where no session is opened
-abbrev pub event_line : List ℕ → Option LineAt
+abbrev pub event_line : List ℕ → Option DrawnLineAt
 event_line rest =
     let party = word rest in let deed = words_behind rest in
     if length party == 0 then None
@@ -122,7 +122,7 @@ abbrev pub taker_in : List ℕ → Option (List ℕ)
 taker_in w = if bytes_eq w (codes "-") then None else Some w
 
 -- a message that was sent from that end
-abbrev pub message_line : List ℕ → List ℕ → Option LineAt
+abbrev pub message_line : List ℕ → List ℕ → Option DrawnLineAt
 message_line end rest =
     let from = words_behind rest in let taker = words_behind from in
     option_map (λ m. Message (record { mark = m; from = word from; to = taker_in (word taker); end = end; first = is_first end; text = words_behind taker }))
@@ -144,7 +144,7 @@ is_state how rest =
     else (if bytes_eq how (codes "limit") then is_just (Number ∷ []) rest || is_just (Number ∷ End ∷ []) rest || is_steps_request rest
     else false))
 
-abbrev pub party_line : List ℕ → Option LineAt
+abbrev pub party_line : List ℕ → Option DrawnLineAt
 party_line rest =
     let party = word rest in let state = words_behind rest in
     if length party == 0 then None
@@ -155,10 +155,10 @@ abbrev pub is_opened : List ℕ → Bool
 is_opened (tens ∷ ones ∷ []) = nat_lt 54 tens || ((tens == 54) && nat_le 52 ones)
 is_opened number = nat_lt 2 (length number)
 
-abbrev pub session_told : SessionAt → LineAt
+abbrev pub session_told : SessionAt → DrawnLineAt
 session_told s = if is_opened s.number then Opened s else Session s
 
-abbrev pub session_line : List ℕ → Option LineAt
+abbrev pub session_line : List ℕ → Option DrawnLineAt
 session_line rest =
     let first = words_behind rest in let first_end = words_behind first in let second = words_behind first_end in
     if is_just (Number ∷ Name ∷ Name ∷ Name ∷ Name ∷ []) rest
@@ -176,7 +176,7 @@ abbrev pub is_plain : List ℕ → Bool
 is_plain line = is_printing line && not (ends_in_space line)
 
 -- a line by its first word, and what stands after that
-abbrev pub worded_line : List ℕ → List ℕ → Option LineAt
+abbrev pub worded_line : List ℕ → List ℕ → Option DrawnLineAt
 worded_line first rest =
     if bytes_eq first (codes "session") then session_line rest
     else (if bytes_eq first (codes "party") then party_line rest
@@ -186,14 +186,14 @@ worded_line first rest =
 abbrev pub is_verdict : List ℕ → Bool
 is_verdict line = bytes_eq line (codes "done") || bytes_eq line (codes "blocked") || bytes_eq line (codes "long")
 
-unfoldable pub split_line : List ℕ → Option LineAt
+unfoldable pub split_line : List ℕ → Option DrawnLineAt
 split_line line = worded_line (word line) (words_behind line)
 
-abbrev pub plain_line : List ℕ → Option LineAt
+abbrev pub plain_line : List ℕ → Option DrawnLineAt
 plain_line line =
     if bytes_eq line (codes "%%log") || bytes_eq line (codes "%%log2") then Some Log
     else (if is_verdict line then Some Verdict else split_line line)
 
 -- what a line says, where it is one of a transcript or a log
-abbrev pub read : List ℕ → Option LineAt
+abbrev pub read : List ℕ → Option DrawnLineAt
 read line = if is_plain line then plain_line line else None

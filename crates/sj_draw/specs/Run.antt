@@ -1,6 +1,7 @@
 -- What the program answers to its input.
 use Rattle.std.specs.Prelude.{◌≡◌, ◌⊎◌, ℕ, ◌<◌, ◌≤◌, List, [], ◌++◌, Option, IfSome, length, decimal, codes}
 use Rattle.sj_base.specs.Stream.{Rose, CameOf, WroteFrontOf, put_before, put_behind}
+use Rattle.sj_text.specs.Statuses.{read_fault_status, too_large_status}
 use Rattle.sj_draw.specs.Answer.{outcome_of}
 use Rattle.sj_draw.specs.Drawn.{picture}
 use Rattle.sj_draw.specs.Chart.{Outcome, Gathered, Unread, Beyond}
@@ -8,22 +9,6 @@ use Rattle.sj_draw.specs.Chart.{Outcome, Gathered, Unread, Beyond}
 -- the most bytes of an input
 abbrev pub most_bytes : ℕ
 most_bytes = 67108864
-
--- a read failed
-abbrev pub read_fault_status : ℕ
-read_fault_status = 2
-
--- more bytes came than an input may have
-abbrev pub too_large_status : ℕ
-too_large_status = 3
-
--- a write failed
-abbrev pub write_fault_status : ℕ
-write_fault_status = 10
-
--- there was no memory
-abbrev pub no_memory_status : ℕ
-no_memory_status = 11
 
 abbrev pub status_of : Outcome → ℕ
 status_of (Gathered f) = 0

@@ -2,7 +2,7 @@
 use Rattle.std.specs.Prelude.{◌≡◌, ℕ, Bool, true, false, List, [], ◌∷◌, Option, Some, None, ⊤}
 use Rattle.sj_draw.specs.declared.lines.Mark.{Mark}
 use Rattle.sj_draw.specs.Chart.{ArrowAt, request_of}
-use Rattle.sj_draw.specs.Lines.{PassedAt, LineAt, Opened, Message, Delivery, Log, read}
+use Rattle.sj_draw.specs.Lines.{PassedAt, DrawnLineAt, Opened, Message, Delivery, Log, read}
 
 -- a kind and a text
 pub record ToldAt : Type 0 where
@@ -16,7 +16,7 @@ abbrev pub passed_told : PassedAt → ToldAt
 passed_told p = record { mark = p.mark; text = p.text }
 
 -- a session that was opened, a message of a transcript or an opening of a log, or a delivery
-abbrev pub told_by : Option LineAt → Option ToldAt
+abbrev pub told_by : Option DrawnLineAt → Option ToldAt
 told_by (Some (Opened s)) = Some (passed_told (request_of s))
 told_by (Some (Message p)) = Some (passed_told p)
 told_by (Some (Delivery p)) = Some (passed_told p)
@@ -25,7 +25,7 @@ told_by _ = None
 abbrev pub told_in : List ℕ → Option ToldAt
 told_in line = told_by (read line)
 
-abbrev pub is_log : Option LineAt → Bool
+abbrev pub is_log : Option DrawnLineAt → Bool
 is_log (Some Log) = true
 is_log _ = false
 

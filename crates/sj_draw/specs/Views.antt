@@ -8,7 +8,7 @@ use Rattle.sj_draw.specs.declared.lines.Line.{Line}
 use Rattle.sj_draw.specs.declared.lines.Line.TheVariants as lines
 use Rattle.sj_draw.specs.declared.lines.Session.{Session as SessionLine}
 use Rattle.sj_draw.specs.declared.lines.Passed.{Passed}
-use Rattle.sj_draw.specs.Lines.{SessionAt, PassedAt, LineAt, Session, Opened, Party, Message, Delivery, Log, Verdict}
+use Rattle.sj_draw.specs.Lines.{SessionAt, PassedAt, DrawnLineAt, Session, Opened, Party, Message, Delivery, Log, Verdict}
 
 abbrev pub session_at : SessionLine → SessionAt
 session_at s = record {
@@ -22,14 +22,14 @@ session_at s = record {
 abbrev pub passed_at : Passed → PassedAt
 passed_at p = record { mark = p.mark; from = p.from.now; to = option_map (λ t. t.now) p.to; end = p.end.now; first = p.first; text = p.text.now }
 
-abbrev pub line_at : Line → LineAt
-line_at (lines.Session s) = Session (session_at s)
-line_at (lines.Opened s) = Opened (session_at s)
-line_at (lines.Party name) = Party name.now
-line_at (lines.Message p) = Message (passed_at p)
-line_at (lines.Delivery p) = Delivery (passed_at p)
-line_at lines.Log = Log
-line_at lines.Verdict = Verdict
+abbrev pub drawn_line_at : Line → DrawnLineAt
+drawn_line_at (lines.Session s) = Session (session_at s)
+drawn_line_at (lines.Opened s) = Opened (session_at s)
+drawn_line_at (lines.Party name) = Party name.now
+drawn_line_at (lines.Message p) = Message (passed_at p)
+drawn_line_at (lines.Delivery p) = Delivery (passed_at p)
+drawn_line_at lines.Log = Log
+drawn_line_at lines.Verdict = Verdict
 
 abbrev pub arrow_at : Arrow → ArrowAt
 arrow_at a = record { mark = a.mark; from = a.from; to = a.to; name = a.name.now; text = a.text.now }

@@ -4,7 +4,7 @@ ghost use Rattle.std.specs.Option.{option_map};
 ghost use Rattle.sj_draw.specs.Chart.{empty, number_of, name_or_end, name_of, request_of, with_party};
 ghost use Rattle.sj_draw.specs.Chart.{with_any, with_passed, with_line, is_within, is_hook};
 ghost use Rattle.sj_draw.specs.Lines.{Log};
-ghost use Rattle.sj_draw.specs.Views.{session_at, passed_at, line_at, chart_at};
+ghost use Rattle.sj_draw.specs.Views.{session_at, passed_at, drawn_line_at, chart_at};
 
 use crate::lines::{Line, Mark, Passed, Session};
 use crate::words::cut;
@@ -80,7 +80,7 @@ impl<'a> Chart<'a> {
     /// Adds what a line says. Where a log begins, the arrows of messages that were taken go, since
     /// the log has their frames.
     pub fn take(&mut self, line: Line<'a>) -> Result<(), NoMemory>
-        ensures { OnOk result (chart_at self.new ≡ with_line (chart_at self.old) (line_at line.entry)) }
+        ensures { OnOk result (chart_at self.new ≡ with_line (chart_at self.old) (drawn_line_at line.entry)) }
     {
         match line {
             Line::Session(session) => {

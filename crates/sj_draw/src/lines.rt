@@ -3,7 +3,7 @@ ghost use Rattle.std.specs.Prelude.{◌≡◌};
 ghost use Rattle.std.specs.Option.{option_map};
 ghost use Rattle.sj_draw.specs.Lines.{frame_line, is_act, event_line, message_line, is_state, party_line, session_line, is_printing};
 ghost use Rattle.sj_draw.specs.Lines.{ends_in_space, is_plain, is_verdict, plain_line, split_line, worded_line, read};
-ghost use Rattle.sj_draw.specs.Views.{line_at};
+ghost use Rattle.sj_draw.specs.Views.{drawn_line_at};
 
 use crate::marks::{frame_mark, mark_behind};
 use crate::openings::{is_first, is_steps_from, is_steps_request, opening_line, session_told};
@@ -72,7 +72,7 @@ pub(crate) enum Line<'a> {
 
 /// What a line says, where it is one of a transcript or a log.
 pub(crate) fn read_line<'a>(line: &'a [u8]) -> Option<Line<'a>>
-    ensures { option_map line_at result ≡ read line.entry.now }
+    ensures { option_map drawn_line_at result ≡ read line.entry.now }
 {
     if !is_plain(line) {
         return None;
@@ -81,7 +81,7 @@ pub(crate) fn read_line<'a>(line: &'a [u8]) -> Option<Line<'a>>
 }
 
 fn plain_line<'a>(line: &'a [u8]) -> Option<Line<'a>>
-    ensures { option_map line_at result ≡ plain_line line.entry.now }
+    ensures { option_map drawn_line_at result ≡ plain_line line.entry.now }
 {
     if line == b"%%log".as_slice() || line == b"%%log2".as_slice() {
         return Some(Line::Log);
@@ -93,7 +93,7 @@ fn plain_line<'a>(line: &'a [u8]) -> Option<Line<'a>>
 }
 
 fn split_line<'a>(line: &'a [u8]) -> Option<Line<'a>>
-    ensures { option_map line_at result ≡ split_line line.entry.now }
+    ensures { option_map drawn_line_at result ≡ split_line line.entry.now }
 {
     let (first, rest) = cut(line, b' ');
     worded_line(first, rest)
@@ -129,7 +129,7 @@ fn ends_in_space(line: &[u8]) -> bool
 
 // A line by its first word, and what stands after that.
 fn worded_line<'a>(first: &'a [u8], rest: &'a [u8]) -> Option<Line<'a>>
-    ensures { option_map line_at result ≡ worded_line first.entry.now rest.entry.now }
+    ensures { option_map drawn_line_at result ≡ worded_line first.entry.now rest.entry.now }
 {
     if first == b"session".as_slice() {
         session_line(rest)
@@ -145,7 +145,7 @@ fn worded_line<'a>(first: &'a [u8], rest: &'a [u8]) -> Option<Line<'a>>
 }
 
 fn session_line<'a>(rest: &'a [u8]) -> Option<Line<'a>>
-    ensures { option_map line_at result ≡ session_line rest.entry.now }
+    ensures { option_map drawn_line_at result ≡ session_line rest.entry.now }
 {
     let fields = [
         Field::Number,
@@ -172,7 +172,7 @@ fn session_line<'a>(rest: &'a [u8]) -> Option<Line<'a>>
 }
 
 fn party_line<'a>(rest: &'a [u8]) -> Option<Line<'a>>
-    ensures { option_map line_at result ≡ party_line rest.entry.now }
+    ensures { option_map drawn_line_at result ≡ party_line rest.entry.now }
 {
     let (party, state) = cut(rest, b' ');
     let (how, rest) = cut(state, b' ');
@@ -201,7 +201,7 @@ fn is_state(how: &[u8], rest: &[u8]) -> bool
 
 // A message that was sent from that end.
 fn message_line<'a>(end: &'a [u8], rest: &'a [u8]) -> Option<Line<'a>>
-    ensures { option_map line_at result ≡ message_line end.entry.now rest.entry.now }
+    ensures { option_map drawn_line_at result ≡ message_line end.entry.now rest.entry.now }
 {
     let Some(mark) = mark_behind(&[Field::Number, Field::Name, Field::Name], rest) else {
         return None;
@@ -226,7 +226,7 @@ fn message_line<'a>(end: &'a [u8], rest: &'a [u8]) -> Option<Line<'a>>
 
 // An event at a party: a frame that came, or what the party did.
 fn event_line<'a>(rest: &'a [u8]) -> Option<Line<'a>>
-    ensures { option_map line_at result ≡ event_line rest.entry.now }
+    ensures { option_map drawn_line_at result ≡ event_line rest.entry.now }
 {
     let (party, deed) = cut(rest, b' ');
     if party.is_empty() {
@@ -261,7 +261,7 @@ fn is_act(verb: &[u8], rest: &[u8]) -> bool
 
 // A frame that came to the party: from whom, and what it says.
 fn frame_line<'a>(to: &'a [u8], rest: &'a [u8]) -> Option<Line<'a>>
-    ensures { option_map line_at result ≡ frame_line to.entry.now rest.entry.now }
+    ensures { option_map drawn_line_at result ≡ frame_line to.entry.now rest.entry.now }
 {
     let (from, text) = cut(rest, b' ');
     if from.is_empty() {

@@ -2,7 +2,7 @@
 ghost use Rattle.std.specs.Prelude.{◌≡◌};
 ghost use Rattle.std.specs.Option.{option_map};
 ghost use Rattle.sj_draw.specs.Lines.{is_first, is_opened, is_steps_from, is_steps_request, opening, opening_line, session_told};
-ghost use Rattle.sj_draw.specs.Views.{line_at, session_at};
+ghost use Rattle.sj_draw.specs.Views.{drawn_line_at, session_at};
 
 use crate::lines::{Line, Mark, Passed, Session};
 use crate::words::{Field, cut, is_just};
@@ -17,7 +17,7 @@ pub(crate) fn is_first(end: &[u8]) -> bool
 
 /// What a party did that opens or accepts a session.
 pub(crate) fn opening_line<'a>(party: &'a [u8], deed: &'a [u8]) -> Option<Line<'a>>
-    ensures { option_map line_at result ≡ opening_line party.entry.now deed.entry.now }
+    ensures { option_map drawn_line_at result ≡ opening_line party.entry.now deed.entry.now }
 {
     let (verb, _) = cut(deed, b' ');
     if verb == b"request".as_slice() {
@@ -31,7 +31,7 @@ pub(crate) fn opening_line<'a>(party: &'a [u8], deed: &'a [u8]) -> Option<Line<'
 
 // After the verb stand a session and the other party.
 fn opening<'a>(mark: Mark, first: bool, from: &'a [u8], text: &'a [u8]) -> Option<Line<'a>>
-    ensures { option_map line_at result ≡ opening mark first from.entry.now text.entry.now }
+    ensures { option_map drawn_line_at result ≡ opening mark first from.entry.now text.entry.now }
 {
     let (_, rest) = cut(text, b' ');
     if !is_just(&[Field::Number, Field::Name], rest) {
@@ -68,7 +68,7 @@ pub(crate) fn is_steps_request(rest: &[u8]) -> bool
 
 /// A session of a connection, or one that was opened, by its number.
 pub(crate) fn session_told<'a>(session: Session<'a>) -> Line<'a>
-    ensures { line_at result ≡ session_told (session_at session.entry) }
+    ensures { drawn_line_at result ≡ session_told (session_at session.entry) }
 {
     if is_opened(session.number) {
         Line::Opened(session)

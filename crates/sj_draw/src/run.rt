@@ -2,21 +2,16 @@
 ghost use Rattle.std.specs.Prelude.{◌≡◌, ◌⊎◌, ◌≤◌, ◌++◌, IfOk, codes, decimal};
 ghost use Rattle.sj_base.specs.Stream.{Rose};
 ghost use Rattle.sj_draw.specs.Answer.{outcome_of};
-ghost use Rattle.sj_draw.specs.Run.{AnswersOne, IsAnswered, WroteFront, status_of, text_of, write_fault_status, no_memory_status};
+ghost use Rattle.sj_text.specs.Statuses.{no_memory_status, write_fault_status};
+ghost use Rattle.sj_draw.specs.Run.{AnswersOne, IsAnswered, WroteFront, status_of, text_of};
 
 use crate::texts::{DrawRefusal, draw_lines};
 use sj_base::{NoMemory, ReadRefusal, Sink, Source, WriteFault, read_all, write_all_of};
-use sj_text::{put, put_number};
+use sj_text::{NO_MEMORY, WRITE_FAULT, put, put_number};
 use std::alloc::Global;
 
 /// The most bytes of an input.
 const MOST_BYTES: usize = 67_108_864;
-
-/// The status where the text can't be written.
-const WRITE_FAULT: u8 = 10;
-
-/// The status where there is no memory.
-const NO_MEMORY: u8 = 11;
 
 /// A status, and the text that is written.
 #[derive(Drop)]

@@ -9,15 +9,19 @@ use crate::lines::read_line;
 use crate::picture::put_picture;
 use sj_base::NoMemory;
 use std::alloc::{AllocError, Global};
+use thiserror::Error;
 
 /// Why no picture was drawn. The numbers are of lines, from 1.
-#[derive(Clone, Copy, Debug, PartialEq, Eq)]
+#[derive(Clone, Copy, Debug, PartialEq, Eq, Error)]
 pub enum DrawRefusal {
     /// The line is none of a transcript or a log, and those before it are drawn.
+    #[error("line {0}")]
     Unread(usize),
     /// The line is one. With it there are more than 16 parties, 1,664 sessions, 1,000,000 arrows,
     /// 64 bytes of a party's name, or 1,024 of an end's name and a text.
+    #[error("too much at line {0}")]
     Beyond(usize),
+    #[error("no memory")]
     NoMemory,
 }
 

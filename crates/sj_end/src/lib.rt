@@ -9,12 +9,12 @@ mod note;
 mod once;
 mod record;
 mod room;
-mod wire;
+mod frames;
 
 pub use end::{End, other_end};
-pub use limits::CLOCK_END;
+pub use limits::{CLOCK_END, MAX_CONN};
 pub use misfit::Misfit;
 pub use note::{Entry, Event, Line, Note, note_of};
 pub use record::{Closed, Deferred, Expected, Held, Parked, Signalled};
 pub use room::Room;
-pub use wire::{Body, Frame, Post};
+pub use frames::{Body, Frame, Post};

@@ -5,7 +5,7 @@ use Rattle.sj_lang.specs.Place.{Place, done}
 use Rattle.sj_rules.specs.Frames.{FrameAt}
 use Rattle.sj_rules.specs.Mapped.{frame_with}
 use Rattle.sj_table.specs.declared.table.Spot.{Spot}
-use Rattle.sj_end.specs.declared.wire.Frame.{Frame}
+use Rattle.sj_end.specs.declared.frames.Frame.{Frame}
 use Rattle.sj_lane.specs.Told.{told_frame, told_list}
 use Rattle.sj_wire.specs.Lawful.{IsLawful, cached_in}
 use Rattle.sj_wire.specs.Limits.{most_cached}

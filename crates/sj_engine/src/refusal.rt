@@ -2,22 +2,25 @@
 ghost use Rattle.std.specs.Prelude.{◌≡◌};
 
 use std::alloc::AllocError;
+use thiserror::Error;
 
 /// Why an entry of a log isn't done again.
-#[derive(Clone, Copy, Debug, PartialEq, Eq)]
+#[derive(Clone, Copy, Debug, PartialEq, Eq, Error)]
 pub enum RedoRefusal {
     /// The party does something else here, or nothing.
+    #[error("misfit")]
     Misfit,
-    /// Out of memory.
+    #[error("no memory")]
     NoMemory,
 }
 
 /// Why the frames of a lane aren't spelt.
-#[derive(Clone, Copy, Debug, PartialEq, Eq)]
+#[derive(Clone, Copy, Debug, PartialEq, Eq, Error)]
 pub enum SpellRefusal {
     /// A frame is outside the limits of the wire.
+    #[error("outside the limits")]
     Unlawful,
-    /// Out of memory.
+    #[error("no memory")]
     NoMemory,
 }
 

@@ -2,8 +2,7 @@
 use Rattle.std.specs.Prelude.{◌≡◌, ℕ, Bool, true, List, [], ◌∷◌, ◌++◌, Some, codes, decimal, length}
 use Rattle.sj_lang.specs.FileAt.{FileAt}
 use Rattle.sj_lang.specs.Limits.{limits}
-use Rattle.sj_grammar.specs.declared.tokens.Rule.{Rule}
-use Rattle.sj_grammar.specs.declared.tokens.Rule.TheVariants.{P1, P2, P3, P4, P5}
+use Rattle.sj_grammar.specs.Rules.{rule_number}
 use Rattle.sj_grammar.specs.Positions.{start}
 use Rattle.sj_grammar.specs.Files.{IsFile}
 use Rattle.sj_grammar.specs.FileDues.{file_layer, file_due}
@@ -11,6 +10,7 @@ use Rattle.sj_grammar.specs.Faults.{Stuck}
 use Rattle.sj_acceptance.specs.Accepted.{IsAccepted}
 use Rattle.sj_acceptance.specs.Faults.{first_fault}
 use Rattle.sj_acceptance.specs.FileTests.{tests_of}
+use Rattle.sj_check.specs.Rules.{number_of}
 use Rattle.sj_semantics.specs.Lines.{line_of}
 use Rattle.sj_explain.specs.declared.answers.CheckAnswer.{CheckAnswer}
 use Rattle.sj_explain.specs.declared.answers.CheckAnswer.TheVariants.{Syntax, Check, Accepted}
@@ -32,15 +32,8 @@ pub record IsRight (text : List ℕ) (parties sessions : ℕ) : Type 0 where
 -- what reading the text and checking its file come to
 abbrev pub IsAnswer : List ℕ → CheckAnswer → Type 0
 IsAnswer text (Syntax fault) = Stuck file_layer limits 0 (start text [] []) file_due fault
-IsAnswer text (Check rule line) = IsFaulty text rule line
+IsAnswer text (Check rule line) = IsFaulty text (number_of rule) line
 IsAnswer text (Accepted parties sessions) = IsRight text parties sessions
-
-abbrev pub rule_number : Rule → ℕ
-rule_number P1 = 1
-rule_number P2 = 2
-rule_number P3 = 3
-rule_number P4 = 4
-rule_number P5 = 5
 
 abbrev pub status_of : CheckAnswer → ℕ
 status_of (Syntax fault) = 4
@@ -52,7 +45,7 @@ abbrev pub answer_line : CheckAnswer → List ℕ
 answer_line (Syntax fault) =
     let place = decimal fault.line ++ (codes ":" ++ decimal fault.column) in
     line_of (codes "syntax" ∷ (codes "P" ++ decimal (rule_number fault.rule)) ∷ codes "at" ∷ place ∷ [])
-answer_line (Check rule line) = line_of (codes "check" ∷ (codes "C" ++ decimal rule) ∷ codes "at" ∷ decimal line ∷ [])
+answer_line (Check rule line) = line_of (codes "check" ∷ (codes "C" ++ decimal (number_of rule)) ∷ codes "at" ∷ decimal line ∷ [])
 answer_line (Accepted parties sessions) =
     line_of (codes "accepted" ∷ codes "parties" ∷ decimal parties ∷ codes "sessions" ∷ decimal sessions ∷ [])
 

@@ -1,27 +1,15 @@
 -- What the program answers to its words and its input.
 use Rattle.std.specs.Prelude.{◌≡◌, ◌⊎◌, ℕ, ◌<◌, ◌≤◌, false, true, List, [], Option, IfSome, length, codes}
 use Rattle.sj_base.specs.Stream.{Rose, CameOf, WroteFrontOf, put_before, put_behind}
+use Rattle.sj_text.specs.Statuses.{read_fault_status, too_large_status}
 use Rattle.sj_lang.specs.Limits.{file_limit}
 use Rattle.sj_explain.specs.declared.answers.CheckAnswer.{CheckAnswer}
 use Rattle.sj_explain.specs.Answers.{IsAnswer, TellsIt, status_of}
 use Rattle.sj_explain.specs.Words.{are_known, wants_drawn}
 
--- the words are none of the program, a read failed, more bytes came than a file may have
+-- the words are none of the program
 abbrev pub usage_status : ℕ
 usage_status = 1
-
-abbrev pub read_fault_status : ℕ
-read_fault_status = 2
-
-abbrev pub too_large_status : ℕ
-too_large_status = 3
-
--- a write failed, there was no memory
-abbrev pub write_fault_status : ℕ
-write_fault_status = 10
-
-abbrev pub no_memory_status : ℕ
-no_memory_status = 11
 
 -- the words, and what a source has left and counts, before and after
 pub record CallAt : Type 0 where
@@ -84,7 +72,3 @@ pub record WroteFront (c : CallAt) (before after : Option (List ℕ)) : Type 0 w
   pub text : List ℕ
   pub comes : IsAnswered c status text
   pub front : WroteFrontOf text before after
-
--- it holds, unless a write failed or there was no memory
-abbrev pub OrYields : ℕ → Type 0 → Type 0
-OrYields status P = P ⊎ ((status ≡ write_fault_status) ⊎ (status ≡ no_memory_status))

@@ -1,9 +1,10 @@
 //! What is answered to the text of a file.
 ghost use Rattle.std.specs.Prelude.{◌≡◌, IfOk};
-ghost use Rattle.sj_explain.specs.Answers.{answer_line, rule_number, status_of};
+ghost use Rattle.sj_explain.specs.Answers.{answer_line, status_of};
 
 use sj_base::NoMemory;
-use sj_proto::{Fault, Rule};
+use sj_check::CheckRule;
+use sj_proto::Fault;
 use sj_text::{put, put_number};
 use std::alloc::Global;
 
@@ -12,8 +13,8 @@ use std::alloc::Global;
 pub enum CheckAnswer {
     /// It is no file of the grammar.
     Syntax(Fault),
-    /// The file breaks the rule of that number on that line.
-    Check { rule: u8, line: u32 },
+    /// The file breaks that rule on that line.
+    Check { rule: CheckRule, line: u32 },
     /// It is accepted, with so many parties and connections.
     Accepted { parties: usize, sessions: usize },
 }
@@ -56,7 +57,7 @@ fn syntax_text(alloc: Global, fault: Fault) -> Result<Vec<u8>, NoMemory>
 {
     let mut text = Vec::new(alloc);
     put(&mut text, b"syntax P")?;
-    put_number(&mut text, number_of(fault.rule))?;
+    put_number(&mut text, u64::from(fault.rule.number()))?;
     put(&mut text, b" at ")?;
     put_number(&mut text, u64::from(fault.line))?;
     put(&mut text, b":")?;
@@ -65,12 +66,12 @@ fn syntax_text(alloc: Global, fault: Fault) -> Result<Vec<u8>, NoMemory>
     Ok(text)
 }
 
-fn check_text(alloc: Global, rule: u8, line: u32) -> Result<Vec<u8>, NoMemory>
+fn check_text(alloc: Global, rule: CheckRule, line: u32) -> Result<Vec<u8>, NoMemory>
     ensures { IfOk result (λ text. text.items ≡ answer_line (CheckAnswer.Check rule line)) }
 {
     let mut text = Vec::new(alloc);
     put(&mut text, b"check C")?;
-    put_number(&mut text, u64::from(rule))?;
+    put_number(&mut text, u64::from(rule.number()))?;
     put(&mut text, b" at ")?;
     put_number(&mut text, u64::from(line))?;
     put(&mut text, b"\n")?;
@@ -87,16 +88,4 @@ fn counts_text(alloc: Global, parties: usize, sessions: usize) -> Result<Vec<u8>
     put_number(&mut text, sessions as u64)?;
     put(&mut text, b"\n")?;
     Ok(text)
-}
-
-fn number_of(rule: Rule) -> u64
-    ensures { result ≡ rule_number rule }
-{
-    match rule {
-        Rule::P1 => 1,
-        Rule::P2 => 2,
-        Rule::P3 => 3,
-        Rule::P4 => 4,
-        Rule::P5 => 5,
-    }
 }

@@ -1,8 +1,9 @@
 //! What a walk through a file knows of it, and the fault at which it stops.
 
-use crate::marks::{Mark, Part};
+use crate::marks::{Part, Span};
 use crate::pieces::{Piece, put_pieces};
 use sj_base::NoMemory;
+use sj_check::CheckRule;
 use sj_lang::{File, Proto};
 use std::alloc::{AllocError, AllocFailed, Global};
 
@@ -24,35 +25,35 @@ pub(crate) struct Site {
 /// A fault, with its place and what was known there.
 #[derive(Drop)]
 pub(crate) struct Finding {
-    pub rule: u8,
+    pub rule: CheckRule,
     pub site: Site,
-    pub mark: Mark,
-    pub other: Option<Mark>,
+    pub mark: Span,
+    pub other: Option<Span>,
     pub knew: Vec<u8>,
 }
 
 /// Why a walk stops.
 #[derive(Drop)]
-pub(crate) enum Stop {
+pub(crate) enum Exit {
     Found(Finding),
     NoMemory,
 }
 
-impl From<NoMemory> for Stop {
+impl From<NoMemory> for Exit {
     fn from(_: NoMemory) -> Self {
-        Stop::NoMemory
+        Exit::NoMemory
     }
 }
 
-impl From<AllocError> for Stop {
+impl From<AllocError> for Exit {
     fn from(_: AllocError) -> Self {
-        Stop::NoMemory
+        Exit::NoMemory
     }
 }
 
-impl<T: Drop> From<AllocFailed<T>> for Stop {
+impl<T: Drop> From<AllocFailed<T>> for Exit {
     fn from(_: AllocFailed<T>) -> Self {
-        Stop::NoMemory
+        Exit::NoMemory
     }
 }
 
@@ -79,11 +80,11 @@ impl Seen {
 
 impl Context<'_> {
     /// The fault of that rule, and what was known in these pieces.
-    pub fn stop(&self, rule: u8, site: Site, mark: Mark, pieces: &[Piece<'_>]) -> Stop {
+    pub fn stop(&self, rule: CheckRule, site: Site, mark: Span, pieces: &[Piece<'_>]) -> Exit {
         let mut knew = Vec::new(self.alloc);
         match put_pieces(self.alloc, &mut knew, &self.file.names, pieces) {
             Ok(()) => stop_with(rule, site, mark, knew),
-            Err(NoMemory) => Stop::NoMemory,
+            Err(NoMemory) => Exit::NoMemory,
         }
     }
 
@@ -109,8 +110,8 @@ impl Context<'_> {
 }
 
 /// The fault of that rule, and what was known.
-pub(crate) fn stop_with(rule: u8, site: Site, mark: Mark, knew: Vec<u8>) -> Stop {
-    Stop::Found(Finding {
+pub(crate) fn stop_with(rule: CheckRule, site: Site, mark: Span, knew: Vec<u8>) -> Exit {
+    Exit::Found(Finding {
         rule,
         site,
         mark,

@@ -1,15 +1,12 @@
 //! The kind of an expression, or its first fault.
 
-use crate::context::{Context, Site, Stop, stop_with};
+use crate::context::{Context, Exit, Site, stop_with};
 use crate::env::Env;
 use crate::joins::put_variables;
-use crate::marks::Mark;
+use crate::marks::Span;
 use crate::pieces::Piece::{Said, Scalar as KindName, Word};
+use sj_check::CheckRule;
 use sj_lang::{Expr, Op, Scalar};
-
-const NOT_THERE: u8 = 5;
-
-const OTHER_KIND: u8 = 7;
 
 /// The kind of an expression that begins with that token of its statement.
 pub(crate) fn kind_of(
@@ -18,7 +15,7 @@ pub(crate) fn kind_of(
     site: Site,
     from: usize,
     e: &Expr,
-) -> Result<Scalar, Stop> {
+) -> Result<Scalar, Exit> {
     match e {
         Expr::Int(_) => Ok(Scalar::Int),
         Expr::Bool(_) => Ok(Scalar::Boolean),
@@ -50,11 +47,11 @@ fn kind_from(op: Op) -> Scalar {
     }
 }
 
-fn tell_unknown(context: Context<'_>, env: &Env, site: Site, from: usize, name: u16) -> Stop {
+fn tell_unknown(context: Context<'_>, env: &Env, site: Site, from: usize, name: u16) -> Exit {
     let mut knew = Vec::new(context.alloc);
     match put_variables(context, &mut knew, env, name) {
-        Ok(()) => stop_with(NOT_THERE, site, Mark::Word(from, name), knew),
-        Err(_) => Stop::NoMemory,
+        Ok(()) => stop_with(CheckRule::NotThere, site, Span::Word(from, name), knew),
+        Err(_) => Exit::NoMemory,
     }
 }
 
@@ -65,14 +62,14 @@ pub(crate) fn want(
     from: usize,
     kind: Scalar,
     operand: Scalar,
-) -> Result<(), Stop> {
+) -> Result<(), Exit> {
     if operand == kind {
         return Ok(());
     }
     Err(context.stop(
-        OTHER_KIND,
+        CheckRule::OtherKind,
         site,
-        Mark::Value(from),
+        Span::Value(from),
         &[
             Said(b"what is of kind "),
             KindName(operand),

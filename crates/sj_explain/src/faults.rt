@@ -1,20 +1,17 @@
 //! The walk through a whole file, up to its first fault.
 
-use crate::context::{Context, Finding, Seen, Site, Stop, stop_with};
+use crate::context::{Context, Exit, Finding, Seen, Site, stop_with};
 use crate::env::Env;
 use crate::joins::put_live;
-use crate::marks::{Mark, Part};
-use crate::names::{NAME_IN_USE, no_party, no_protocol};
+use crate::marks::{Part, Span};
+use crate::names::{no_party, no_protocol};
 use crate::openings::meet_openings;
 use crate::pieces::Piece::{Item as One, Number, Place, Said, Word};
 use crate::walk::block;
 use sj_base::NoMemory;
+use sj_check::{CheckRule, is_same_end};
 use sj_lang::{Arms, Connect, EndDecl, File, Item, Kind, Party, Proto, copied, meet_item, meets};
 use std::alloc::Global;
-
-const DO_NOT_MEET: u8 = 4;
-
-const LEFT_OPEN: u8 = 12;
 
 /// The first fault of the file, as far as it is one on that line.
 pub(crate) fn find_fault(
@@ -25,12 +22,12 @@ pub(crate) fn find_fault(
     let context = Context { alloc, file };
     match walk(context, line) {
         Ok(()) => Ok(None),
-        Err(Stop::Found(finding)) => Ok(Some(finding)),
-        Err(Stop::NoMemory) => Err(NoMemory),
+        Err(Exit::Found(finding)) => Ok(Some(finding)),
+        Err(Exit::NoMemory) => Err(NoMemory),
     }
 }
 
-fn walk(context: Context<'_>, line: u32) -> Result<(), Stop> {
+fn walk(context: Context<'_>, line: u32) -> Result<(), Exit> {
     protocols(context, line)?;
     parties(context, line)?;
     connects(context, line)?;
@@ -43,7 +40,7 @@ fn walk(context: Context<'_>, line: u32) -> Result<(), Stop> {
     meet_openings(context, line)
 }
 
-fn protocols(context: Context<'_>, line: u32) -> Result<(), Stop> {
+fn protocols(context: Context<'_>, line: u32) -> Result<(), Exit> {
     let mut seen = Seen { line, count: 0 };
     for (i, protocol) in context.file.protocols.iter().enumerate() {
         let site = seen.enter(Part::Protocol, protocol.line);
@@ -58,13 +55,13 @@ fn protocols(context: Context<'_>, line: u32) -> Result<(), Stop> {
                 Word(label),
                 Said(b" is the label of an earlier arm of the same choice"),
             ];
-            return Err(context.stop(NAME_IN_USE, site, Mark::Name(2, labels), &what));
+            return Err(context.stop(CheckRule::NameInUse, site, Span::Name(2, labels), &what));
         }
     }
     Ok(())
 }
 
-fn named_before(context: Context<'_>, site: Site, token: usize, name: u16, line: u32) -> Stop {
+fn named_before(context: Context<'_>, site: Site, token: usize, name: u16, line: u32) -> Exit {
     let what = [
         Said(b"the one on line "),
         Number(u64::from(line)),
@@ -72,7 +69,7 @@ fn named_before(context: Context<'_>, site: Site, token: usize, name: u16, line:
         Word(name),
         Said(b", too"),
     ];
-    context.stop(NAME_IN_USE, site, Mark::Token(token), &what)
+    context.stop(CheckRule::NameInUse, site, Span::Token(token), &what)
 }
 
 // The first label that stands twice in one choice; how many labels stand before it.
@@ -114,7 +111,7 @@ fn twice_among(choice: &Arms, labels: &mut usize) -> Option<u16> {
     None
 }
 
-fn parties(context: Context<'_>, line: u32) -> Result<(), Stop> {
+fn parties(context: Context<'_>, line: u32) -> Result<(), Exit> {
     let mut seen = Seen { line, count: 0 };
     for (i, party) in context.file.parties.iter().enumerate() {
         let site = seen.enter(Part::Party, party.line);
@@ -127,7 +124,7 @@ fn parties(context: Context<'_>, line: u32) -> Result<(), Stop> {
     Ok(())
 }
 
-fn connects(context: Context<'_>, line: u32) -> Result<(), Stop> {
+fn connects(context: Context<'_>, line: u32) -> Result<(), Exit> {
     let mut seen = Seen { line, count: 0 };
     for (i, connect) in context.file.connects.iter().enumerate() {
         let site = seen.enter(Part::Connection, connect.line);
@@ -141,7 +138,7 @@ fn connects(context: Context<'_>, line: u32) -> Result<(), Stop> {
                 Word(connect.second.name),
                 Said(b" is the first end of this connection"),
             ];
-            return Err(context.stop(NAME_IN_USE, site, Mark::Token(6), &what));
+            return Err(context.stop(CheckRule::NameInUse, site, Span::Token(6), &what));
         }
         check_unused(context, site, 6, i, connect.second)?;
         if !meets(first, second) {
@@ -157,7 +154,7 @@ fn protocol_at<'a>(
     site: Site,
     token: usize,
     end: EndDecl,
-) -> Result<&'a Proto, Stop> {
+) -> Result<&'a Proto, Exit> {
     if !context.has_party(end.party) {
         return Err(no_party(context, site, token));
     }
@@ -176,39 +173,35 @@ fn check_unused(
     token: usize,
     i: usize,
     end: EndDecl,
-) -> Result<(), Stop> {
+) -> Result<(), Exit> {
     for earlier in context.file.connects.iter().take(i) {
-        if is_same_end(earlier.first, end) || is_same_end(earlier.second, end) {
+        if is_same_end(&earlier.first, &end) || is_same_end(&earlier.second, &end) {
             let what = [
                 Word(end.party),
                 Said(b" has an end of that name by the connection on line "),
                 Number(u64::from(earlier.line)),
             ];
-            return Err(context.stop(NAME_IN_USE, site, Mark::Token(token), &what));
+            return Err(context.stop(CheckRule::NameInUse, site, Span::Token(token), &what));
         }
     }
     Ok(())
 }
 
-fn is_same_end(one: EndDecl, other: EndDecl) -> bool {
-    one.party == other.party && one.name == other.name
-}
-
 // The two protocols of a connection, and where they part.
-fn tell_unmet<'x>(context: Context<'_>, site: Site, first: &'x Proto, second: &'x Proto) -> Stop {
+fn tell_unmet<'x>(context: Context<'_>, site: Site, first: &'x Proto, second: &'x Proto) -> Exit {
     let stop = match first_unmet(first, second) {
         Some((n, one, other)) => parted_items(context, site, n, one, other),
         None => tell_unequal(context, site, first, second),
     };
     match stop {
-        Stop::Found(finding) => Stop::Found(Finding {
+        Exit::Found(finding) => Exit::Found(Finding {
             rule: finding.rule,
             site: finding.site,
             mark: finding.mark,
-            other: Some(Mark::Token(7)),
+            other: Some(Span::Token(7)),
             knew: finding.knew,
         }),
-        Stop::NoMemory => Stop::NoMemory,
+        Exit::NoMemory => Exit::NoMemory,
     }
 }
 
@@ -218,7 +211,7 @@ fn parted_items<'x>(
     n: usize,
     one: &'x Item,
     other: &'x Item,
-) -> Stop {
+) -> Exit {
     let what = [
         Said(b"item "),
         Number((n as u64).saturating_add(1)),
@@ -227,10 +220,10 @@ fn parted_items<'x>(
         Said(b" and "),
         One(other),
     ];
-    context.stop(DO_NOT_MEET, site, Mark::Token(3), &what)
+    context.stop(CheckRule::DoNotMeet, site, Span::Token(3), &what)
 }
 
-fn tell_unequal<'x>(context: Context<'_>, site: Site, first: &'x Proto, second: &'x Proto) -> Stop {
+fn tell_unequal<'x>(context: Context<'_>, site: Site, first: &'x Proto, second: &'x Proto) -> Exit {
     let what = [
         Said(b"they are "),
         Place(first),
@@ -238,7 +231,7 @@ fn tell_unequal<'x>(context: Context<'_>, site: Site, first: &'x Proto, second: 
         Place(second),
         Said(b", of which one is longer"),
     ];
-    context.stop(DO_NOT_MEET, site, Mark::Token(3), &what)
+    context.stop(CheckRule::DoNotMeet, site, Span::Token(3), &what)
 }
 
 /// The first items of the two that don't meet.
@@ -252,7 +245,7 @@ fn first_unmet<'a>(first: &'a Proto, second: &'a Proto) -> Option<(usize, &'a It
     None
 }
 
-fn body(context: Context<'_>, seen: &mut Seen, site: Site, party: &Party) -> Result<(), Stop> {
+fn body(context: Context<'_>, seen: &mut Seen, site: Site, party: &Party) -> Result<(), Exit> {
     let mut env = Env::new(context.alloc);
     for connect in &context.file.connects {
         put_ends(context, &mut env, party.name, connect)?;
@@ -263,7 +256,7 @@ fn body(context: Context<'_>, seen: &mut Seen, site: Site, party: &Party) -> Res
     }
     let mut knew = Vec::new(context.alloc);
     put_live(context, &mut knew, &env)?;
-    Err(stop_with(LEFT_OPEN, site, Mark::Token(1), knew))
+    Err(stop_with(CheckRule::LeftOpen, site, Span::Token(1), knew))
 }
 
 // The ends that a connection gives the party.

@@ -1,24 +1,23 @@
 //! What two ways leave, compared, and what is known put in words.
 
-use crate::context::{Context, Site, Stop, stop_with};
+use crate::context::{Context, Exit, Site, stop_with};
 use crate::env::{Env, LiveEnd};
-use crate::marks::Mark;
+use crate::marks::Span;
 use crate::pieces::Piece::{Place, Said, Scalar, Word};
 use crate::pieces::{Piece, put_pieces};
 use sj_base::NoMemory;
+use sj_check::CheckRule;
 use sj_lang::{Proto, same};
 use sj_text::put;
-
-const TURN_DIFFERS: u8 = 10;
 
 /// Whether both know the same live ends at the same places; else what differs is said.
 pub(crate) fn compare(
     context: Context<'_>,
-    rule: u8,
+    rule: CheckRule,
     site: Site,
     one: &Env,
     other: &Env,
-) -> Result<(), Stop> {
+) -> Result<(), Exit> {
     for end in &one.ends {
         match other.place(end.name) {
             Some(place) if same(&end.place, place) => {}
@@ -34,16 +33,16 @@ pub(crate) fn compare(
     Ok(())
 }
 
-fn first_way(rule: u8) -> Piece<'static> {
-    if rule == TURN_DIFFERS {
+fn first_way(rule: CheckRule) -> Piece<'static> {
+    if rule == CheckRule::TurnDiffers {
         Said(b" before the loop")
     } else {
         Said(b" after the first block")
     }
 }
 
-fn other_way(rule: u8) -> Piece<'static> {
-    if rule == TURN_DIFFERS {
+fn other_way(rule: CheckRule) -> Piece<'static> {
+    if rule == CheckRule::TurnDiffers {
         Said(b" after a turn")
     } else {
         Said(b" after a later one")
@@ -53,15 +52,15 @@ fn other_way(rule: u8) -> Piece<'static> {
 // An end that is at another place on the other way.
 fn apart<'x>(
     context: Context<'_>,
-    rule: u8,
+    rule: CheckRule,
     site: Site,
     end: &'x LiveEnd,
     place: &'x Proto,
-) -> Stop {
+) -> Exit {
     context.stop(
         rule,
         site,
-        Mark::Token(0),
+        Span::Token(0),
         &[
             Said(b"ahead of "),
             Word(end.name),
@@ -76,7 +75,7 @@ fn apart<'x>(
 }
 
 // An end that is live on one of the two ways alone.
-fn one_sided(context: Context<'_>, rule: u8, site: Site, name: u16, first: bool) -> Stop {
+fn one_sided(context: Context<'_>, rule: CheckRule, site: Site, name: u16, first: bool) -> Exit {
     let ways = if first {
         [first_way(rule), other_way(rule)]
     } else {
@@ -85,7 +84,7 @@ fn one_sided(context: Context<'_>, rule: u8, site: Site, name: u16, first: bool)
     context.stop(
         rule,
         site,
-        Mark::Token(0),
+        Span::Token(0),
         &[
             Word(name),
             Said(b" is live"),
@@ -97,11 +96,17 @@ fn one_sided(context: Context<'_>, rule: u8, site: Site, name: u16, first: bool)
 }
 
 /// No end of that name is live: which are, with their places.
-pub(crate) fn tell_dead(context: Context<'_>, env: &Env, rule: u8, site: Site, mark: Mark) -> Stop {
+pub(crate) fn tell_dead(
+    context: Context<'_>,
+    env: &Env,
+    rule: CheckRule,
+    site: Site,
+    mark: Span,
+) -> Exit {
     let mut knew = Vec::new(context.alloc);
     match put_live(context, &mut knew, env) {
         Ok(()) => stop_with(rule, site, mark, knew),
-        Err(NoMemory) => Stop::NoMemory,
+        Err(NoMemory) => Exit::NoMemory,
     }
 }
 

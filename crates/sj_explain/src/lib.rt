@@ -35,3 +35,4 @@ mod words;
 pub use answers::{CheckAnswer, Looks};
 pub use reasons::{Told, why};
 pub use run::explain;
+pub use sj_text::NO_MEMORY;

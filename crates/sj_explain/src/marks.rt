@@ -19,7 +19,7 @@ pub(crate) enum Part {
 
 /// Words of a part, by tokens from its first one on, which is 0.
 #[derive(Clone, Copy)]
-pub(crate) enum Mark {
+pub(crate) enum Span {
     /// The token of that number.
     Token(usize),
     /// From that token up to the next `;` or `{`.
@@ -75,16 +75,16 @@ impl<'a> Scanned<'a> {
     }
 
     /// What the mark at that part underlines; None where the text has no such words.
-    pub fn stretch(&self, names: &Names, site: Site, mark: Mark) -> Option<Stretch> {
+    pub fn stretch(&self, names: &Names, site: Site, mark: Span) -> Option<Stretch> {
         let first = self.first_of(site)?;
         match mark {
-            Mark::Token(n) => self.one(first.saturating_add(n)),
-            Mark::Value(n) => self.value(first.saturating_add(n)),
-            Mark::Word(n, word) => {
+            Span::Token(n) => self.one(first.saturating_add(n)),
+            Span::Value(n) => self.value(first.saturating_add(n)),
+            Span::Word(n, word) => {
                 let word = names.words.get(word as usize)?;
                 self.word(first.saturating_add(n), word)
             }
-            Mark::Name(n, k) => self.name(first.saturating_add(n), k),
+            Span::Name(n, k) => self.name(first.saturating_add(n), k),
         }
     }
 

@@ -1,20 +1,14 @@
 //! Names in statements: that one is free, that a variable keeps its kind, and which protocols and
 //! parties there are.
 
-use crate::context::{Context, Site, Stop, stop_with};
+use crate::context::{Context, Exit, Site, stop_with};
 use crate::env::Env;
-use crate::marks::Mark;
+use crate::marks::Span;
 use crate::pieces::Piece::{Place, Said, Scalar as KindName, Word};
 use crate::pieces::put_pieces;
-use crate::statements::OTHER_KIND;
 use sj_base::NoMemory;
+use sj_check::CheckRule;
 use sj_lang::Scalar;
-
-pub(crate) const NO_PROTOCOL: u8 = 1;
-
-pub(crate) const NO_PARTY: u8 = 2;
-
-pub(crate) const NAME_IN_USE: u8 = 3;
 
 /// The name is one of no end and of no variable.
 pub(crate) fn free(
@@ -23,7 +17,7 @@ pub(crate) fn free(
     site: Site,
     token: usize,
     name: u16,
-) -> Result<(), Stop> {
+) -> Result<(), Exit> {
     free_of_ends(context, env, site, token, name)?;
     match env.kind(name) {
         None => Ok(()),
@@ -34,7 +28,7 @@ pub(crate) fn free(
                 KindName(kind),
                 Said(b" here"),
             ];
-            Err(context.stop(NAME_IN_USE, site, Mark::Token(token), &what))
+            Err(context.stop(CheckRule::NameInUse, site, Span::Token(token), &what))
         }
     }
 }
@@ -46,7 +40,7 @@ pub(crate) fn free_of_ends(
     site: Site,
     token: usize,
     name: u16,
-) -> Result<(), Stop> {
+) -> Result<(), Exit> {
     match env.place(name) {
         None => Ok(()),
         Some(place) => {
@@ -55,7 +49,7 @@ pub(crate) fn free_of_ends(
                 Said(b" is a live end here, ahead of it "),
                 Place(place),
             ];
-            Err(context.stop(NAME_IN_USE, site, Mark::Token(token), &what))
+            Err(context.stop(CheckRule::NameInUse, site, Span::Token(token), &what))
         }
     }
 }
@@ -68,7 +62,7 @@ pub(crate) fn same_kind(
     token: usize,
     name: u16,
     kind: Scalar,
-) -> Result<(), Stop> {
+) -> Result<(), Exit> {
     match env.kind(name) {
         None => Ok(()),
         Some(old) if old == kind => Ok(()),
@@ -80,13 +74,13 @@ pub(crate) fn same_kind(
                 Said(b" here, and would get kind "),
                 KindName(kind),
             ];
-            Err(context.stop(OTHER_KIND, site, Mark::Token(token), &what))
+            Err(context.stop(CheckRule::OtherKind, site, Span::Token(token), &what))
         }
     }
 }
 
 /// No protocol has the name that is that token; which there are.
-pub(crate) fn no_protocol(context: Context<'_>, site: Site, token: usize) -> Stop {
+pub(crate) fn no_protocol(context: Context<'_>, site: Site, token: usize) -> Exit {
     let mut knew = Vec::new(context.alloc);
     for (i, protocol) in context.file.protocols.iter().enumerate() {
         if put_listed(
@@ -98,21 +92,21 @@ pub(crate) fn no_protocol(context: Context<'_>, site: Site, token: usize) -> Sto
         )
         .is_err()
         {
-            return Stop::NoMemory;
+            return Exit::NoMemory;
         }
     }
-    stop_with(NO_PROTOCOL, site, Mark::Token(token), knew)
+    stop_with(CheckRule::NoProtocol, site, Span::Token(token), knew)
 }
 
 /// No party has the name that is that token; which there are.
-pub(crate) fn no_party(context: Context<'_>, site: Site, token: usize) -> Stop {
+pub(crate) fn no_party(context: Context<'_>, site: Site, token: usize) -> Exit {
     let mut knew = Vec::new(context.alloc);
     for (i, party) in context.file.parties.iter().enumerate() {
         if put_listed(context, &mut knew, b"the file has parties ", i, party.name).is_err() {
-            return Stop::NoMemory;
+            return Exit::NoMemory;
         }
     }
-    stop_with(NO_PARTY, site, Mark::Token(token), knew)
+    stop_with(CheckRule::NoParty, site, Span::Token(token), knew)
 }
 
 fn put_listed(

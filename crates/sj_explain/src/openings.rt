@@ -1,12 +1,11 @@
 //! Requests and accepts between two parties.
 
-use crate::context::{Context, Seen, Site, Stop};
-use crate::marks::{Mark, Part};
+use crate::context::{Context, Exit, Seen, Site};
+use crate::marks::{Part, Span};
 use crate::pieces::Piece::{Number, Place, Said, Word};
 use sj_base::NoMemory;
+use sj_check::CheckRule;
 use sj_lang::{Deed, Party, Proto, Stmt, StmtArm, meets};
-
-const ACCEPT_UNMET: u8 = 15;
 
 // A request or an accept, with its protocol and the name of the other party.
 #[derive(Clone, Copy)]
@@ -18,7 +17,7 @@ struct Opening {
 }
 
 /// Each accept meets the requests of the party from which it accepts.
-pub(crate) fn meet_openings(context: Context<'_>, line: u32) -> Result<(), Stop> {
+pub(crate) fn meet_openings(context: Context<'_>, line: u32) -> Result<(), Exit> {
     let mut seen = Seen { line, count: 0 };
     for party in &context.file.parties {
         let mut openings = Vec::new(context.alloc);
@@ -32,7 +31,7 @@ pub(crate) fn meet_openings(context: Context<'_>, line: u32) -> Result<(), Stop>
     Ok(())
 }
 
-fn meet_requests(context: Context<'_>, to: &Party, accept: Opening) -> Result<(), Stop> {
+fn meet_requests(context: Context<'_>, to: &Party, accept: Opening) -> Result<(), Exit> {
     for from in &context.file.parties {
         if from.name == accept.party {
             let mut seen = Seen { line: 0, count: 0 };
@@ -48,7 +47,7 @@ fn meet_requests(context: Context<'_>, to: &Party, accept: Opening) -> Result<()
     Ok(())
 }
 
-fn meet_one(context: Context<'_>, accept: Opening, request: Opening) -> Result<(), Stop> {
+fn meet_one(context: Context<'_>, accept: Opening, request: Opening) -> Result<(), Exit> {
     let (Some(one), Some(other)) = (
         context.body(request.protocol),
         context.body(accept.protocol),
@@ -67,7 +66,7 @@ fn tell_unmet<'x>(
     request: Opening,
     one: &'x Proto,
     other: &'x Proto,
-) -> Stop {
+) -> Exit {
     let what = [
         Word(accept.party),
         Said(b" requests on line "),
@@ -81,7 +80,7 @@ fn tell_unmet<'x>(
         Said(b" is "),
         Place(other),
     ];
-    context.stop(ACCEPT_UNMET, accept.site, Mark::Token(2), &what)
+    context.stop(CheckRule::AcceptUnmet, accept.site, Span::Token(2), &what)
 }
 
 // The requests and accepts of a block, in order.

@@ -19,7 +19,7 @@ use crate::syntax::put_syntax;
 use crate::waits::put_ending;
 use crate::warnings::put_warnings;
 use sj_base::NoMemory;
-use sj_check::{Accepted, CheckRefusal, check};
+use sj_check::{Accepted, CheckRefusal, CheckRule, check};
 use sj_lang::File;
 use sj_party::parse_file;
 use sj_plain::Plain;
@@ -211,7 +211,7 @@ fn check_reasons(
     looks: Looks,
     source: &[u8],
     file: &File,
-    rule: u8,
+    rule: CheckRule,
     line: u32,
 ) -> Result<Vec<u8>, NoMemory>
     requires { length source.now ≤ file_limit }

@@ -1,22 +1,18 @@
 //! From the words and the input to the output.
 ghost use Rattle.std.specs.Prelude.{◌≡◌, ◌≤◌, IfOk, map, string_bytes};
 ghost use Rattle.sj_base.specs.Stream.{Rose};
-ghost use Rattle.sj_explain.specs.Run.{AnswersOne, IsAnswered, OrYields, WroteFront, write_fault_status, no_memory_status};
+ghost use Rattle.sj_text.specs.Statuses.{OrYields, no_memory_status, write_fault_status};
+ghost use Rattle.sj_explain.specs.Run.{AnswersOne, IsAnswered, WroteFront};
 
 use crate::answers::Looks;
 use crate::reasons::why;
 use crate::words::{are_known, has_word};
 use sj_base::{NoMemory, ReadRefusal, Sink, Source, WriteFault, read_all, write_all_of};
+use sj_text::{NO_MEMORY, WRITE_FAULT};
 use std::alloc::Global;
 
 /// The most bytes of a file.
 const MOST_BYTES: usize = 65_536;
-
-/// The status where the text can't be written.
-const WRITE_FAULT: u8 = 10;
-
-/// The status where there is no memory.
-const NO_MEMORY: u8 = 11;
 
 /// A status, and the text that is written.
 #[derive(Drop)]

@@ -1,28 +1,17 @@
 //! Statements without blocks: what each does to what is known, or its first fault.
 
-use crate::context::{Context, Site, Stop, stop_with};
+use crate::context::{Context, Exit, Site, stop_with};
 use crate::env::Env;
 use crate::expressions::{kind_of, want};
 use crate::joins::tell_dead;
-use crate::marks::Mark;
+use crate::marks::Span;
 use crate::names::{free, free_of_ends, no_party, no_protocol, same_kind};
 use crate::pieces::Piece::{Place, Said, Scalar as KindName, Word};
 use crate::pieces::{Piece, put_pieces};
 use crate::places::copied_arm;
 use crate::scalars::carries;
+use sj_check::CheckRule;
 use sj_lang::{Expr, Item, Kind, Proto, Scalar, copied, same, stands_for};
-
-pub(crate) const NOT_THERE: u8 = 5;
-
-pub(crate) const OTHER_ACTION: u8 = 6;
-
-pub(crate) const OTHER_KIND: u8 = 7;
-
-const NO_LABEL: u8 = 8;
-
-const CLOSED_EARLY: u8 = 11;
-
-const NOT_TO_DELEGATE: u8 = 13;
 
 /// What is ahead of the end that token of the statement names.
 pub(crate) fn live<'a>(
@@ -31,10 +20,10 @@ pub(crate) fn live<'a>(
     site: Site,
     token: usize,
     end: u16,
-) -> Result<&'a Proto, Stop> {
+) -> Result<&'a Proto, Exit> {
     match env.place(end) {
         Some(place) => Ok(place),
-        None => Err(tell_dead(context, env, NOT_THERE, site, Mark::Token(token))),
+        None => Err(tell_dead(context, env, CheckRule::NotThere, site, Span::Token(token))),
     }
 }
 
@@ -46,11 +35,11 @@ pub(crate) fn other_action<'x>(
     end: u16,
     place: &'x Proto,
     wants: &'x [u8],
-) -> Stop {
+) -> Exit {
     context.stop(
-        OTHER_ACTION,
+        CheckRule::OtherAction,
         site,
-        Mark::Token(token),
+        Span::Token(token),
         &[
             Said(b"ahead of "),
             Word(end),
@@ -67,11 +56,11 @@ pub(crate) fn other_action<'x>(
 fn other_kind(
     context: Context<'_>,
     site: Site,
-    mark: Mark,
+    mark: Span,
     what: &[Piece<'_>],
     end: u16,
     place: &Proto,
-) -> Stop {
+) -> Exit {
     let mut knew = Vec::new(context.alloc);
     let names = &context.file.names;
     let rest = [
@@ -83,9 +72,9 @@ fn other_kind(
     if put_pieces(context.alloc, &mut knew, names, what).is_err()
         || put_pieces(context.alloc, &mut knew, names, &rest).is_err()
     {
-        return Stop::NoMemory;
+        return Exit::NoMemory;
     }
-    stop_with(OTHER_KIND, site, mark, knew)
+    stop_with(CheckRule::OtherKind, site, mark, knew)
 }
 
 pub(crate) fn send(
@@ -94,7 +83,7 @@ pub(crate) fn send(
     site: Site,
     end: u16,
     value: &Expr,
-) -> Result<(), Stop> {
+) -> Result<(), Exit> {
     let place = live(context, env, site, 1, end)?;
     let Some(Item::Send(kind)) = place.items.first() else {
         return Err(other_action(context, site, 1, end, place, b"`!<..>`"));
@@ -102,7 +91,7 @@ pub(crate) fn send(
     let sent = kind_of(context, env, site, 2, value)?;
     if !carries(kind, sent) {
         let what = [Said(b"the value is of kind "), KindName(sent)];
-        return Err(other_kind(context, site, Mark::Value(2), &what, end, place));
+        return Err(other_kind(context, site, Span::Value(2), &what, end, place));
     }
     env.pass(context.alloc, end)?;
     Ok(())
@@ -114,25 +103,25 @@ pub(crate) fn delegate(
     site: Site,
     end: u16,
     sent: u16,
-) -> Result<(), Stop> {
+) -> Result<(), Exit> {
     let place = live(context, env, site, 1, end)?;
     let given = live(context, env, site, 2, sent)?;
     if end == sent {
         let what = [Word(sent), Said(b" is the carrier itself")];
-        return Err(context.stop(NOT_TO_DELEGATE, site, Mark::Token(2), &what));
+        return Err(context.stop(CheckRule::NotToDelegate, site, Span::Token(2), &what));
     }
     let Some(Item::Send(kind)) = place.items.first() else {
         return Err(other_action(context, site, 1, end, place, b"`!<..>`"));
     };
     let what = [Said(b"ahead of "), Word(sent), Said(b" is "), Place(given)];
     let Kind::Session(carried) = kind else {
-        return Err(other_kind(context, site, Mark::Token(2), &what, end, place));
+        return Err(other_kind(context, site, Span::Token(2), &what, end, place));
     };
     if given.items.is_empty() {
-        return Err(context.stop(NOT_TO_DELEGATE, site, Mark::Token(2), &what));
+        return Err(context.stop(CheckRule::NotToDelegate, site, Span::Token(2), &what));
     }
     if !stands_for(given, carried) {
-        return Err(other_kind(context, site, Mark::Token(2), &what, end, place));
+        return Err(other_kind(context, site, Span::Token(2), &what, end, place));
     }
     env.remove(sent);
     env.pass(context.alloc, end)?;
@@ -146,7 +135,7 @@ pub(crate) fn take_value(
     end: u16,
     into: u16,
     kind: Scalar,
-) -> Result<(), Stop> {
+) -> Result<(), Exit> {
     let place = live(context, env, site, 1, end)?;
     let Some(Item::Recv(carried)) = place.items.first() else {
         return Err(other_action(context, site, 1, end, place, b"`?(..)`"));
@@ -157,7 +146,7 @@ pub(crate) fn take_value(
             KindName(kind),
             Said(b" is wanted"),
         ];
-        return Err(other_kind(context, site, Mark::Token(3), &what, end, place));
+        return Err(other_kind(context, site, Span::Token(3), &what, end, place));
     }
     free_of_ends(context, env, site, 2, into)?;
     same_kind(context, env, site, 2, into, kind)?;
@@ -173,7 +162,7 @@ pub(crate) fn take_end(
     end: u16,
     into: u16,
     protocol: u16,
-) -> Result<(), Stop> {
+) -> Result<(), Exit> {
     let place = live(context, env, site, 1, end)?;
     let Some(body) = context.body(protocol) else {
         return Err(no_protocol(context, site, 4));
@@ -199,9 +188,9 @@ fn other_session(
     body: &Proto,
     end: u16,
     place: &Proto,
-) -> Stop {
+) -> Exit {
     let what = [Word(protocol), Said(b" is "), Place(body)];
-    other_kind(context, site, Mark::Token(4), &what, end, place)
+    other_kind(context, site, Span::Token(4), &what, end, place)
 }
 
 fn is_session_of(carried: &Kind, body: &Proto) -> bool {
@@ -217,14 +206,14 @@ pub(crate) fn select(
     site: Site,
     end: u16,
     label: u16,
-) -> Result<(), Stop> {
+) -> Result<(), Exit> {
     let place = live(context, env, site, 1, end)?;
     let Some(Item::Select(choice)) = place.items.first() else {
         return Err(other_action(context, site, 1, end, place, b"`!{..}`"));
     };
     let Some(arm) = copied_arm(context.alloc, place, choice, label)? else {
         let what = [Said(b"ahead of "), Word(end), Said(b" is "), Place(place)];
-        return Err(context.stop(NO_LABEL, site, Mark::Token(2), &what));
+        return Err(context.stop(CheckRule::NoLabel, site, Span::Token(2), &what));
     };
     env.put(end, arm)?;
     Ok(())
@@ -236,7 +225,7 @@ pub(crate) fn let_be(
     site: Site,
     name: u16,
     value: &Expr,
-) -> Result<(), Stop> {
+) -> Result<(), Exit> {
     let kind = kind_of(context, env, site, 3, value)?;
     free_of_ends(context, env, site, 1, name)?;
     same_kind(context, env, site, 1, name, kind)?;
@@ -244,11 +233,11 @@ pub(crate) fn let_be(
     Ok(())
 }
 
-pub(crate) fn close(context: Context<'_>, env: &mut Env, site: Site, end: u16) -> Result<(), Stop> {
+pub(crate) fn close(context: Context<'_>, env: &mut Env, site: Site, end: u16) -> Result<(), Exit> {
     let place = live(context, env, site, 1, end)?;
     if !place.items.is_empty() {
         let what = [Said(b"ahead of "), Word(end), Said(b" is "), Place(place)];
-        return Err(context.stop(CLOSED_EARLY, site, Mark::Token(1), &what));
+        return Err(context.stop(CheckRule::ClosedEarly, site, Span::Token(1), &what));
     }
     env.remove(end);
     Ok(())
@@ -262,7 +251,7 @@ pub(crate) fn open(
     end: u16,
     protocol: u16,
     party: u16,
-) -> Result<(), Stop> {
+) -> Result<(), Exit> {
     let Some(body) = context.body(protocol) else {
         return Err(no_protocol(context, site, 2));
     };

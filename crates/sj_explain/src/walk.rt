@@ -1,22 +1,17 @@
 //! The walk through a body, statement by statement, up to its first fault.
 
-use crate::context::{Context, Seen, Site, Stop};
+use crate::context::{Context, Exit, Seen, Site};
 use crate::env::Env;
 use crate::expressions::{kind_of, want};
 use crate::joins::compare;
-use crate::marks::{Mark, Part};
+use crate::marks::{Part, Span};
 use crate::pieces::Piece::{Place, Said, Word};
 use crate::places::{copied_arm, copied_turn};
 use crate::statements::{
     close, delegate, let_be, live, open, other_action, select, send, take_end, take_value,
 };
+use sj_check::CheckRule;
 use sj_lang::{Arms, Deed, Expr, Item, Proto, Scalar, Stmt, StmtArm};
-
-const ARMS_DIFFER: u8 = 9;
-
-const TURN_DIFFERS: u8 = 10;
-
-const OTHER_ARMS: u8 = 14;
 
 /// Statements in order.
 #[cycle(explaining)]
@@ -25,7 +20,7 @@ pub(crate) fn block(
     env: &mut Env,
     seen: &mut Seen,
     stmts: &[Stmt],
-) -> Result<(), Stop> {
+) -> Result<(), Exit> {
     for stmt in stmts {
         let site = seen.enter(Part::Statement, stmt.line);
         statement(context, env, seen, site, &stmt.deed)?;
@@ -40,7 +35,7 @@ fn statement(
     seen: &mut Seen,
     site: Site,
     deed: &Deed,
-) -> Result<(), Stop> {
+) -> Result<(), Exit> {
     match deed {
         Deed::Send { end, value } => send(context, env, site, *end, value),
         Deed::Delegate { end, sent } => delegate(context, env, site, *end, *sent),
@@ -92,7 +87,7 @@ fn check_out_while(
     site: Site,
     end: u16,
     count: &Expr,
-) -> Result<(), Stop> {
+) -> Result<(), Exit> {
     let place = live(context, env, site, 1, end)?;
     let Some(Item::OutLoop(_)) = place.items.first() else {
         return Err(other_action(context, site, 1, end, place, b"`![..]*`"));
@@ -102,7 +97,7 @@ fn check_out_while(
 }
 
 // The end of an `inwhile` stands before its loop.
-fn check_in_while(context: Context<'_>, env: &Env, site: Site, end: u16) -> Result<(), Stop> {
+fn check_in_while(context: Context<'_>, env: &Env, site: Site, end: u16) -> Result<(), Exit> {
     let place = live(context, env, site, 1, end)?;
     let Some(Item::InLoop(_)) = place.items.first() else {
         return Err(other_action(context, site, 1, end, place, b"`?[..]*`"));
@@ -117,7 +112,7 @@ fn check_relay(
     site: Site,
     from: u16,
     to: u16,
-) -> Result<(), Stop> {
+) -> Result<(), Exit> {
     let source = live(context, env, site, 1, from)?;
     let target = live(context, env, site, 2, to)?;
     let Some(Item::InLoop(_)) = source.items.first() else {
@@ -138,20 +133,20 @@ fn turn(
     site: Site,
     ends: &[u16],
     body: &[Stmt],
-) -> Result<(), Stop> {
+) -> Result<(), Exit> {
     let mut inner = env.copy(context.alloc)?;
     for end in ends {
         enter(context, &mut inner, *end)?;
     }
     block(context, &mut inner, seen, body)?;
-    compare(context, TURN_DIFFERS, site, env, &inner)?;
+    compare(context, CheckRule::TurnDiffers, site, env, &inner)?;
     for end in ends {
         env.pass(context.alloc, *end)?;
     }
     Ok(())
 }
 
-fn enter(context: Context<'_>, env: &mut Env, end: u16) -> Result<(), Stop> {
+fn enter(context: Context<'_>, env: &mut Env, end: u16) -> Result<(), Exit> {
     if let Some(place) = env.place(end) {
         let inner = copied_turn(context.alloc, place)?;
         env.put(end, inner)?;
@@ -160,15 +155,15 @@ fn enter(context: Context<'_>, env: &mut Env, end: u16) -> Result<(), Stop> {
 }
 
 // What is known before the blocks of an `if`, once more.
-fn copy_behind_test(context: Context<'_>, env: &Env, site: Site, test: &Expr) -> Result<Env, Stop> {
+fn copy_behind_test(context: Context<'_>, env: &Env, site: Site, test: &Expr) -> Result<Env, Exit> {
     let kind = kind_of(context, env, site, 1, test)?;
     want(context, site, 1, Scalar::Boolean, kind)?;
     Ok(env.copy(context.alloc)?)
 }
 
 // What both blocks of an `if` leave.
-fn join(context: Context<'_>, env: &mut Env, site: Site, other: &Env) -> Result<(), Stop> {
-    compare(context, ARMS_DIFFER, site, env, other)?;
+fn join(context: Context<'_>, env: &mut Env, site: Site, other: &Env) -> Result<(), Exit> {
+    compare(context, CheckRule::ArmsDiffer, site, env, other)?;
     env.keep_common(other);
     Ok(())
 }
@@ -181,7 +176,7 @@ fn branch(
     site: Site,
     end: u16,
     arms: &[StmtArm],
-) -> Result<(), Stop> {
+) -> Result<(), Exit> {
     let place = live(context, env, site, 1, end)?;
     let Some(Item::Branch(choice)) = place.items.first() else {
         return Err(other_action(context, site, 1, end, place, b"`?{..}`"));
@@ -199,7 +194,7 @@ fn branch(
         let mut inner = at_arm(context, env, end, arm.label)?;
         block(context, &mut inner, seen, &arm.body)?;
         if told.is_ok() {
-            told = compare(context, ARMS_DIFFER, site, &left, &inner);
+            told = compare(context, CheckRule::ArmsDiffer, site, &left, &inner);
         }
         left.keep_common(&inner);
     }
@@ -208,17 +203,17 @@ fn branch(
     Ok(())
 }
 
-fn other_labels(context: Context<'_>, site: Site, end: u16, place: &Proto) -> Stop {
+fn other_labels(context: Context<'_>, site: Site, end: u16, place: &Proto) -> Exit {
     context.stop(
-        OTHER_ARMS,
+        CheckRule::OtherArms,
         site,
-        Mark::Token(0),
+        Span::Token(0),
         &[Said(b"ahead of "), Word(end), Said(b" is "), Place(place)],
     )
 }
 
 // What is known in the arm of that label.
-fn at_arm(context: Context<'_>, env: &Env, end: u16, label: u16) -> Result<Env, Stop> {
+fn at_arm(context: Context<'_>, env: &Env, end: u16, label: u16) -> Result<Env, Exit> {
     let mut inner = env.copy(context.alloc)?;
     if let Some(place) = env.place(end) {
         if let Some(Item::Branch(choice)) = place.items.first() {

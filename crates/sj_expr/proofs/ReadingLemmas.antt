@@ -12,13 +12,13 @@ use Rattle.sj_grammar.specs.Positions.{Pieces}
 use Rattle.sj_grammar.specs.Expressions.{Level, Spelt}
 use Rattle.sj_grammar.specs.Expressions as level
 use Rattle.sj_expr.proofs.TokenLemmas.{no_largest, quoted_text, name_no_number, inner_quoted, text_no_number}
-use Rattle.sj_expr.proofs.ShapeLemmas.{Shape, leaf, minus, negated, joined, Frame, negation, group, product, addition, comparison, State, wants, has, moved, Sign, plus, compare, sign_of, Held, settled, up_product, up_addition, by_term, at_term, reading}
+use Rattle.sj_expr.proofs.ShapeLemmas.{Shape, leaf, minus, negated, joined, OpenOperand, negation, group, product, addition, comparison, State, wants, has, moved, Sign, plus, compare, sign_of, Held, settled, up_product, up_addition, by_term, at_term, reading}
 use Rattle.sj_expr.proofs.FrameLemmas.{rank, need, settled_free, product_free, addition_free, IsNoStar, MayFollow, same_term, same_sum, compared_is, no_star_first}
 use Rattle.sj_expr.proofs.ShapeTermLemmas.{IsShapeOf}
 use Rattle.sj_proto.proofs.NameLemmas.{name_no_text}
 use Rattle.sj_expr.proofs.OperandLemmas.{number_operand, true_operand, false_operand, text_operand, name_operand, not_no_operand, true_no_name, false_no_name}
 
-abbrev pub arrives : Level → Shape → List Frame → State
+abbrev pub arrives : Level → Shape → List OpenOperand → State
 arrives level.factor s k = settled s k
 arrives level.term s k = has s k
 arrives level.sum s k = has s k
@@ -27,7 +27,7 @@ arrives level.whole s k = has s k
 module _ (L : Limits) (names : Spelling) where
   -- the pieces are read as a shape of the term, whatever stands before them and whatever may follow
   abbrev pub IsRead : Level → Term → Pieces → Type 0
-  IsRead l t a = (s : Shape) × IsShapeOf L names s t × ((k : List Frame) (x : Pieces) → need l ≤ rank k → MayFollow l x → reading (wants k) (a ++ x) ≡ reading (arrives l s k) x)
+  IsRead l t a = (s : Shape) × IsShapeOf L names s t × ((k : List OpenOperand) (x : Pieces) → need l ≤ rank k → MayFollow l x → reading (wants k) (a ++ x) ≡ reading (arrives l s k) x)
 
   added : (op : Op) (c : List ℕ) (t u : Term) (a b : Pieces) → sign_of c ≡ plus op → IsRead level.sum t a → IsRead level.term u b → IsRead level.sum (term.two op t u) (a ++ c ∷ b)
   added op c t u a b e f g = (

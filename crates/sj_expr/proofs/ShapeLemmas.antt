@@ -15,18 +15,18 @@ pub data Shape : Type 0 where
   joined : Op → Shape → Shape → Shape
 
 -- what stands before an operand that is awaited
-pub data Frame : Type 0 where
-  negation : Frame
-  group : Frame
-  product : Shape → Frame
-  addition : Op → Shape → Frame
-  comparison : Op → Shape → Frame
+pub data OpenOperand : Type 0 where
+  negation : OpenOperand
+  group : OpenOperand
+  product : Shape → OpenOperand
+  addition : Op → Shape → OpenOperand
+  comparison : Op → Shape → OpenOperand
 
 -- a factor is wanted; or the number after a minus; or something is there that may go on
 pub data State : Type 0 where
-  wants : List Frame → State
-  number : List Frame → State
-  has : Shape → List Frame → State
+  wants : List OpenOperand → State
+  number : List OpenOperand → State
+  has : Shape → List OpenOperand → State
 
 pub data Move : Type 0 where
   moves : State → Move
@@ -48,7 +48,7 @@ abbrev pub sign_of : List ℕ → Sign
 sign_of s = sign_by (bytes_eq s (codes "*")) (bytes_eq s (codes "+")) (bytes_eq s (codes "-")) (bytes_eq s (codes "<")) (bytes_eq s (codes "<=")) (bytes_eq s (codes "==")) (bytes_eq s (codes ")"))
 
 -- what was wanted for a `not`, a product, a sum, a comparison is there
-abbrev pub settled : Shape → List Frame → State
+abbrev pub settled : Shape → List OpenOperand → State
 settled s [] = has s []
 settled s (negation ∷ k) = settled (negated s) k
 settled s (group ∷ k) = has s (group ∷ k)
@@ -57,9 +57,9 @@ settled s (addition op l ∷ k) = has s (addition op l ∷ k)
 settled s (comparison op l ∷ k) = has s (comparison op l ∷ k)
 
 abbrev pub Held : Type 0
-Held = Shape × List Frame
+Held = Shape × List OpenOperand
 
-abbrev pub up_product : Shape → List Frame → Held
+abbrev pub up_product : Shape → List OpenOperand → Held
 up_product s [] = (s, [])
 up_product s (negation ∷ k) = (s, negation ∷ k)
 up_product s (group ∷ k) = (s, group ∷ k)
@@ -67,7 +67,7 @@ up_product s (product l ∷ k) = (joined Mul l s, k)
 up_product s (addition op l ∷ k) = (s, addition op l ∷ k)
 up_product s (comparison op l ∷ k) = (s, comparison op l ∷ k)
 
-abbrev pub up_addition : Shape → List Frame → Held
+abbrev pub up_addition : Shape → List OpenOperand → Held
 up_addition s [] = (s, [])
 up_addition s (negation ∷ k) = (s, negation ∷ k)
 up_addition s (group ∷ k) = (s, group ∷ k)
@@ -75,7 +75,7 @@ up_addition s (product l ∷ k) = (s, product l ∷ k)
 up_addition s (addition op l ∷ k) = (joined op l s, k)
 up_addition s (comparison op l ∷ k) = (s, comparison op l ∷ k)
 
-abbrev pub up_comparison : Shape → List Frame → Held
+abbrev pub up_comparison : Shape → List OpenOperand → Held
 up_comparison s [] = (s, [])
 up_comparison s (negation ∷ k) = (s, negation ∷ k)
 up_comparison s (group ∷ k) = (s, group ∷ k)
@@ -83,7 +83,7 @@ up_comparison s (product l ∷ k) = (s, product l ∷ k)
 up_comparison s (addition op l ∷ k) = (s, addition op l ∷ k)
 up_comparison s (comparison op l ∷ k) = (joined op l s, k)
 
-abbrev pub closed : Shape → List Frame → Move
+abbrev pub closed : Shape → List OpenOperand → Move
 closed s [] = ends
 closed s (negation ∷ k) = ends
 closed s (group ∷ k) = moves (settled s k)

@@ -8,17 +8,17 @@ use Rattle.sj_semantics.specs.Program.{Program}
 use Rattle.sj_rules.specs.Opened.{is_opened_by}
 use Rattle.sj_rules.specs.Party.{nobody}
 use Rattle.sj_rules.specs.Record.{is_same_end, offered_end}
-use Rattle.sj_forward.specs.declared.desk.Desk.{Desk}
+use Rattle.sj_forward.specs.declared.forwarder.Forwarder.{Forwarder}
 use Rattle.sj_forward.specs.declared.records.Kind.{Kind}
 use Rattle.sj_forward.specs.declared.records.Kind.TheVariants as kinds
 use Rattle.sj_forward.specs.declared.records.Seen.{Seen}
-use Rattle.sj_forward.specs.Desk.{DoesSo, desk_at}
+use Rattle.sj_forward.specs.Forwarder.{DoesSo, forwarder_at}
 use Rattle.sj_forward.specs.Ends.{EndsStay, Rows, Writes, is_storing, more_stored, records_in, stores, uses_in}
-use Rattle.sj_forward.specs.Offers.{offering, offers_in}
+use Rattle.sj_offers.specs.Offers.{offering, offers_in}
 use Rattle.sj_forward.specs.Outs.{inward, lane_in}
 use Rattle.sj_forward.specs.Views.{kind_of, seen_of}
 use Rattle.sj_forward.proofs.ActLemmas.{Lanes, Table}
-use Rattle.sj_forward.proofs.DeskLemmas.{desk_recorded, does_quietly, does_so}
+use Rattle.sj_forward.proofs.ForwarderLemmas.{forwarder_recorded, does_quietly, does_so}
 use Rattle.sj_forward.proofs.SlotLemmas.{one_other, one_same, some_same}
 use Rattle.sj_forward_rules.specs.Arrivals.{at_record, claim_by, in_by, open_comes, passed_on}
 use Rattle.sj_forward_rules.specs.Node.{NodeAt, Worked, quietly, with_first, with_offers, with_record}
@@ -42,27 +42,27 @@ pub storing_parked : (o : Option RecordAt) (s : Seen) (n : ℕ) → Some s ≡ o
 storing_parked None s n told kind = absurd (cc told)
 storing_parked (Some r) s n told kind = (storing_kind r.state s.kind (ap (λ (x : Seen). x.kind) (sym (some_same s (seen_of r) told)))).1 n kind
 
-module _ (d : Desk) (ends : Table) (e : EndId) (hop : ℕ) (m : SentAt) (g : Program) where
+module _ (d : Forwarder) (ends : Table) (e : EndId) (hop : ℕ) (m : SentAt) (g : Program) where
   stored_at : (behind : ℕ) (st : StateAt) → stores st ≡ true → Writes d.ends.items e (uses_in d.ends.items e) hop (more_stored m (record { behind = behind; state = st })) ends.items
-      → DoesSo d (in_by (desk_at g d) e hop m behind st) (record d { ends = ends })
+      → DoesSo d (in_by (forwarder_at g d) e hop m behind st) (record d { ends = ends })
   stored_at behind (Held ms) t w =
       let r : RecordAt = record { behind = behind; state = Held (ms ++ m ∷ []) } in
-      does_quietly d (record d { ends = ends }) (with_record e hop r (desk_at g d)) (desk_recorded g d ends e hop r w) (λ q. refl)
+      does_quietly d (record d { ends = ends }) (with_record e hop r (forwarder_at g d)) (forwarder_recorded g d ends e hop r w) (λ q. refl)
   stored_at behind (Parked ms) t w =
       let r : RecordAt = record { behind = behind; state = Parked (ms ++ m ∷ []) } in
-      does_quietly d (record d { ends = ends }) (with_record e hop r (desk_at g d)) (desk_recorded g d ends e hop r w) (λ q. refl)
+      does_quietly d (record d { ends = ends }) (with_record e hop r (forwarder_at g d)) (forwarder_recorded g d ends e hop r w) (λ q. refl)
   stored_at behind (Passing p) t w = absurd (cc t)
   stored_at behind Closed t w = absurd (cc t)
 
   stored_by : (o : Option RecordAt) → is_storing o ≡ true → ((r : RecordAt) → o ≡ Some r → Writes d.ends.items e (uses_in d.ends.items e) hop (more_stored m r) ends.items)
-      → DoesSo d (at_record (in_by (desk_at g d) e hop m) o) (record d { ends = ends })
+      → DoesSo d (at_record (in_by (forwarder_at g d) e hop m) o) (record d { ends = ends })
   stored_by None t w = absurd (cc t)
   stored_by (Some r) t w = stored_at r.behind r.state t (w r refl)
 
   -- the row of a message for a record that stores it
   pub stored_so : is_storing (records_in d.ends.items e hop) ≡ true
       → ((r : RecordAt) → records_in d.ends.items e hop ≡ Some r → Writes d.ends.items e (uses_in d.ends.items e) hop (more_stored m r) ends.items)
-      → DoesSo d (at_record (in_by (desk_at g d) e hop m) (records_in d.ends.items e hop)) (record d { ends = ends })
+      → DoesSo d (at_record (in_by (forwarder_at g d) e hop m) (records_in d.ends.items e hop)) (record d { ends = ends })
   stored_so t w = stored_by (records_in d.ends.items e hop) t w
 
 -- ---- a Claim
@@ -89,33 +89,33 @@ record IsWaiting (o : Option RecordAt) : Type 0 where
   waiting : List SentAt
   state : parked.state ≡ Parked waiting
 
-waiting_by : (d : Desk) (e : EndId) (hop origin : ℕ) (o : Option RecordAt) → IsSome (at_record (claim_by (desk_at nobody d) e hop origin) o) → IsWaiting o
+waiting_by : (d : Forwarder) (e : EndId) (hop origin : ℕ) (o : Option RecordAt) → IsSome (at_record (claim_by (forwarder_at nobody d) e hop origin) o) → IsWaiting o
 waiting_by d e hop origin None some = absurd (cc some)
 waiting_by d e hop origin (Some r) some = by r.state refl some
   where
-    by : (st : StateAt) → r.state ≡ st → IsSome (claim_by (desk_at nobody d) e hop origin r.behind st) → IsWaiting (Some r)
+    by : (st : StateAt) → r.state ≡ st → IsSome (claim_by (forwarder_at nobody d) e hop origin r.behind st) → IsWaiting (Some r)
     by (Parked ms) is s = record { parked = r; there = refl; waiting = ms; state = is }
     by (Held ms) is s = absurd (cc s)
     by (Passing p) is s = absurd (cc s)
     by Closed is s = absurd (cc s)
 
-pub claimed_so : (d : Desk) (ends : Table) (mid outs : Lanes) (e : EndId) (hop origin : ℕ) (ms : List SentAt) → IsSome (at_record (claim_by (desk_at nobody d) e hop origin) (records_in d.ends.items e hop))
+pub claimed_so : (d : Forwarder) (ends : Table) (mid outs : Lanes) (e : EndId) (hop origin : ℕ) (ms : List SentAt) → IsSome (at_record (claim_by (forwarder_at nobody d) e hop origin) (records_in d.ends.items e hop))
     → ((r : RecordAt) → records_in d.ends.items e hop ≡ Some r → r.state ≡ Parked ms)
     → ((r : RecordAt) → records_in d.ends.items e hop ≡ Some r → Writes d.ends.items e (uses_in d.ends.items e) hop (record { behind = r.behind; state = Passing origin }) ends.items)
     → ((q : ℕ) → lane_in mid.items q ≡ lane_in d.outs.items q)
     → ((q : ℕ) → lane_in outs.items q ≡ (if q == origin then lane_in mid.items q ++ inward e (hop + 1) ms else lane_in mid.items q))
-    → (g : Program) → DoesSo d (at_record (claim_by (desk_at g d) e hop origin) (records_in d.ends.items e hop)) (record d { ends = ends; outs = outs })
+    → (g : Program) → DoesSo d (at_record (claim_by (forwarder_at g d) e hop origin) (records_in d.ends.items e hop)) (record d { ends = ends; outs = outs })
 claimed_so d ends mid outs e hop origin ms some waited passes same put g =
     let it = waiting_by d e hop origin (records_in d.ends.items e hop) some in
     let r = it.parked in
     let left : RecordAt = record { behind = r.behind; state = Passing origin } in
-    let new : Desk = record d { ends = ends; outs = outs } in
-    let done : Worked Program = record { node = with_record e hop left (desk_at g d); posts = passed_on e (suc hop) origin ms } in
-    let row : at_record (claim_by (desk_at g d) e hop origin) (records_in d.ends.items e hop) ≡ Some done =
-    ap (at_record (claim_by (desk_at g d) e hop origin)) it.there ∙ ap (claim_by (desk_at g d) e hop origin r.behind) (waited r it.there) in
-    does_so d new (at_record (claim_by (desk_at g d) e hop origin) (records_in d.ends.items e hop)) done row
+    let new : Forwarder = record d { ends = ends; outs = outs } in
+    let done : Worked Program = record { node = with_record e hop left (forwarder_at g d); posts = passed_on e (suc hop) origin ms } in
+    let row : at_record (claim_by (forwarder_at g d) e hop origin) (records_in d.ends.items e hop) ≡ Some done =
+    ap (at_record (claim_by (forwarder_at g d) e hop origin)) it.there ∙ ap (claim_by (forwarder_at g d) e hop origin r.behind) (waited r it.there) in
+    does_so d new (at_record (claim_by (forwarder_at g d) e hop origin) (records_in d.ends.items e hop)) done row
     (record {
-      node = desk_recorded g (record d { outs = outs }) ends e hop left (passes r it.there);
+      node = forwarder_recorded g (record d { outs = outs }) ends e hop left (passes r it.there);
       posts = λ q.
           put q ∙ (λ i. if q == origin then same q i ++ inward e (add-one hop i) ms else same q i)
           ∙ into q (q == origin)
@@ -135,19 +135,19 @@ writes_after a b c e at hop r stay w = record {
   records = w.records ∙ (λ i d k. if is_same_end d e && (k == hop) then Some r else stay.records i d k);
 }
 
-pub opens_so : (d : Desk) (mid ends : Table) (offers : Vec (Vec ℕ Global) Global) (origin sess : ℕ) → IsSome (open_comes (desk_at nobody d) origin sess) → EndsStay d.ends.items mid.items
+pub opens_so : (d : Forwarder) (mid ends : Table) (offers : Vec (Vec ℕ Global) Global) (origin sess : ℕ) → IsSome (open_comes (forwarder_at nobody d) origin sess) → EndsStay d.ends.items mid.items
     → Writes mid.items (offered_end sess) (Some 0) 0 (record { behind = origin; state = Held [] }) ends.items
     → offers_in offers.items ≡ offering origin (offers_in d.offers.items origin ++ sess ∷ []) (offers_in d.offers.items)
-    → (g : Program) → DoesSo d (open_comes (desk_at g d) origin sess) (record d { offers = offers; ends = ends })
+    → (g : Program) → DoesSo d (open_comes (forwarder_at g d) origin sess) (record d { offers = offers; ends = ends })
 opens_so d mid ends offers origin sess some stay begun more g = by (is_opened_by origin sess && is_none (records_in d.ends.items (offered_end sess) 0)) some
   where
     e : EndId
     e = offered_end sess
 
     n : NodeAt Program
-    n = desk_at g d
+    n = forwarder_at g d
 
-    new : Desk
+    new : Forwarder
     new = record d { offers = offers; ends = ends }
 
     node : NodeAt Program
@@ -157,7 +157,7 @@ opens_so d mid ends offers origin sess some stay begun more g = by (is_opened_by
     w = writes_after d.ends.items mid.items ends.items e (Some 0) 0 (record { behind = origin; state = Held [] }) stay begun
 
     there : Bool → Program → Option (Worked Program)
-    there b k = if b then Some (quietly (with_offers origin ((desk_at k d).offers origin ++ sess ∷ []) (with_first e origin (desk_at k d)))) else None
+    there b k = if b then Some (quietly (with_offers origin ((forwarder_at k d).offers origin ++ sess ∷ []) (with_first e origin (forwarder_at k d)))) else None
 
     by : (b : Bool) → IsSome (there b nobody) → DoesSo d (there b g) new
     by false h = absurd (cc h)

@@ -7,8 +7,8 @@ use Rattle.sj_rules.specs.Drain.{numbers_from, turn}
 use Rattle.sj_rules.specs.Party.{play_of}
 use Rattle.sj_rules.specs.World as rules
 use Rattle.sj_rules.specs.World.{Turn}
-use Rattle.sj_forward.specs.declared.desk_world.DeskWorld.{DeskWorld}
-use Rattle.sj_forward.specs.DeskWorld.{Steps, file_in, world_in}
+use Rattle.sj_forward.specs.declared.forwarder_world.ForwarderWorld.{ForwarderWorld}
+use Rattle.sj_forward.specs.ForwarderWorld.{Steps, file_in, world_in}
 use Rattle.sj_forward.specs.Draining.{ActsOut, Anything, Empties, EmptiesEach, GoesBy, GoesFirst, IsDrained, IsRound, Leads, Leaves, TakeTurns, TakesTurn}
 use Rattle.sj_forward.proofs.DrainLemmas.{step_of}
 use Rattle.sj_forward.proofs.FrontLemmas.{first_each, first_of, left_on, next_each, next_of}
@@ -36,7 +36,7 @@ module _ (file : FileAt) where
   acted_rest p w mid v t (s ∷ ts) is h r =
       (ts, (ap (λ x. x ∷ ts) (r.0 ∙ sym is), subst (λ (x : WorldAt Program). drain.ActsOut (play_of file) p x ts v) (some_same r.1.0 mid (sym r.1.1.0 ∙ h)) r.1.1.1))
 
-pub left_took : (c d e : DeskWorld) (p q : ℕ) → file_in d ≡ file_in c → Leaves (Empties c p q) (Empties c p q) c d → Steps d p (rules.Deliver q) e → Leaves (Empties c p q) (Empties c p q) c e
+pub left_took : (c d e : ForwarderWorld) (p q : ℕ) → file_in d ≡ file_in c → Leaves (Empties c p q) (Empties c p q) c d → Steps d p (rules.Deliver q) e → Leaves (Empties c p q) (Empties c p q) c e
 left_took c d e p q file a t =
     left_on (Empties c p q) (Empties c p q) (Empties c p q) c d e a
     (record {
@@ -45,7 +45,7 @@ left_took c d e p q file a t =
       rest_of = λ ts v r. took_rest (file_in c) p q (world_in d) (world_in e) v (turn p (rules.Deliver q)) ts refl (step_of c d e p (rules.Deliver q) file t) r;
     })
 
-pub left_acted : (c d e : DeskWorld) (p : ℕ) → file_in d ≡ file_in c → Leaves (ActsOut c p) (ActsOut c p) c d → Steps d p rules.Act e → Leaves (ActsOut c p) (ActsOut c p) c e
+pub left_acted : (c d e : ForwarderWorld) (p : ℕ) → file_in d ≡ file_in c → Leaves (ActsOut c p) (ActsOut c p) c d → Steps d p rules.Act e → Leaves (ActsOut c p) (ActsOut c p) c e
 left_acted c d e p file a t =
     left_on (ActsOut c p) (ActsOut c p) (ActsOut c p) c d e a
     (record {
@@ -54,28 +54,28 @@ left_acted c d e p file a t =
       rest_of = λ ts v r. acted_rest (file_in c) p (world_in d) (world_in e) v (turn p rules.Act) ts refl (step_of c d e p rules.Act file t) r;
     })
 
--- what one world of desks does by a relation, for the file of another
-with_file : (Does : FileAt → Type 0) (c d : DeskWorld) → file_in d ≡ file_in c → Does (file_in d) → Does (file_in c)
+-- what one world of forwarders does by a relation, for the file of another
+with_file : (Does : FileAt → Type 0) (c d : ForwarderWorld) → file_in d ≡ file_in c → Does (file_in d) → Does (file_in c)
 with_file Does c d file does = subst Does file does
 
-pub left_lane : (R : Leads) (c d e : DeskWorld) (p n k : ℕ) → file_in d ≡ file_in c → k < n → Leaves R (EmptiesEach c p (numbers_from k (n - k))) c d → GoesBy (Empties d p k) d e
+pub left_lane : (R : Leads) (c d e : ForwarderWorld) (p n k : ℕ) → file_in d ≡ file_in c → k < n → Leaves R (EmptiesEach c p (numbers_from k (n - k))) c d → GoesBy (Empties d p k) d e
     → Leaves R (EmptiesEach c p (numbers_from (k + 1) (n - (k + 1)))) c e
 left_lane R c d e p n k file lt a g =
     next_each (Empties c p) (EmptiesEach c p) (λ q. empties_once (play_of (file_in c)) p q) (λ q qs w v ts r. r) R c d e n k lt a
     (with_file (λ f. GoesBy (drain.Empties (play_of f) p k) d e) c d file g)
 
-pub first_lane : (R : Leads) (c d e : DeskWorld) (p n k : ℕ) → file_in d ≡ file_in c → k < n → Leaves R (EmptiesEach c p (numbers_from k (n - k))) c d → GoesFirst (Empties d p k) d e → GoesFirst R c e
+pub first_lane : (R : Leads) (c d e : ForwarderWorld) (p n k : ℕ) → file_in d ≡ file_in c → k < n → Leaves R (EmptiesEach c p (numbers_from k (n - k))) c d → GoesFirst (Empties d p k) d e → GoesFirst R c e
 first_lane R c d e p n k file lt a b =
     first_each (Empties c p) (EmptiesEach c p) (λ q. empties_once (play_of (file_in c)) p q) (λ q qs w v ts r. r) R c d e n k lt a
     (with_file (λ f. GoesFirst (drain.Empties (play_of f) p k) d e) c d file b)
 
-pub left_turn : (R : Leads) (c d e : DeskWorld) (n m k : ℕ) → file_in d ≡ file_in c → m ≡ n → k < n → Leaves R (TakeTurns c n (numbers_from k (n - k))) c d → GoesBy (TakesTurn d m k) d e
+pub left_turn : (R : Leads) (c d e : ForwarderWorld) (n m k : ℕ) → file_in d ≡ file_in c → m ≡ n → k < n → Leaves R (TakeTurns c n (numbers_from k (n - k))) c d → GoesBy (TakesTurn d m k) d e
     → Leaves R (TakeTurns c n (numbers_from (k + 1) (n - (k + 1)))) c e
 left_turn R c d e n m k file count lt a g =
     next_each (TakesTurn c n) (TakeTurns c n) (λ p. turn_once (play_of (file_in c)) n p) (λ p ps w v ts r. r) R c d e n k lt a
     (subst (λ x. GoesBy (TakesTurn c x k) d e) count (with_file (λ f. GoesBy (drain.TakesTurn (play_of f) m k) d e) c d file g))
 
-pub first_turn : (R : Leads) (c d e : DeskWorld) (n m k : ℕ) → file_in d ≡ file_in c → m ≡ n → k < n → Leaves R (TakeTurns c n (numbers_from k (n - k))) c d → GoesFirst (TakesTurn d m k) d e
+pub first_turn : (R : Leads) (c d e : ForwarderWorld) (n m k : ℕ) → file_in d ≡ file_in c → m ≡ n → k < n → Leaves R (TakeTurns c n (numbers_from k (n - k))) c d → GoesFirst (TakesTurn d m k) d e
     → GoesFirst R c e
 first_turn R c d e n m k file count lt a b =
     first_each (TakesTurn c n) (TakeTurns c n) (λ p. turn_once (play_of (file_in c)) n p) (λ p ps w v ts r. r) R c d e n k lt a
@@ -83,10 +83,10 @@ first_turn R c d e n m k file count lt a b =
 
 -- ---- a turn
 
-pub first_takes : (c e : DeskWorld) (n p : ℕ) → GoesFirst (EmptiesEach c p (numbers_from 0 n)) c e → GoesFirst (TakesTurn c n p) c e
+pub first_takes : (c e : ForwarderWorld) (n p : ℕ) → GoesFirst (EmptiesEach c p (numbers_from 0 n)) c e → GoesFirst (TakesTurn c n p) c e
 first_takes c e n p b = first_of (EmptiesEach c p (numbers_from 0 n)) (ActsOut c p) (TakesTurn c n p) c e (λ w v ts r. r) b
 
-pub first_acts : (c d e : DeskWorld) (n p : ℕ) → file_in d ≡ file_in c → GoesBy (EmptiesEach c p (numbers_from 0 n)) c d → GoesFirst (ActsOut d p) d e → GoesFirst (TakesTurn c n p) c e
+pub first_acts : (c d e : ForwarderWorld) (n p : ℕ) → file_in d ≡ file_in c → GoesBy (EmptiesEach c p (numbers_from 0 n)) c d → GoesFirst (ActsOut d p) d e → GoesFirst (TakesTurn c n p) c e
 first_acts c d e n p file g b =
     left_on (TakesTurn c n p) (ActsOut c p) Anything c d e
     (next_of (EmptiesEach c p (numbers_from 0 n)) (ActsOut c p) (TakesTurn c n p) c d (each_once (play_of (file_in c)) p (numbers_from 0 n)) (λ w v ts r. r) g)
@@ -113,7 +113,7 @@ round_first file n w v ts us front (s ∷ rs, by) =
     let x = front s by.1.0 y.2 in
     (x.0 ++ by.0, (y.1 ∙ ap (λ t. t ++ by.0) x.1.0 ∙ append_assoc us x.0 by.0, tt))
 
-pub left_round : (R : Leads) (c d e : DeskWorld) (n m : ℕ) → file_in d ≡ file_in c → m ≡ n → Leaves R (IsDrained c n) c d → GoesBy (IsRound d m) d e → d.events < e.events
+pub left_round : (R : Leads) (c d e : ForwarderWorld) (n m : ℕ) → file_in d ≡ file_in c → m ≡ n → Leaves R (IsDrained c n) c d → GoesBy (IsRound d m) d e → d.events < e.events
     → Leaves R (IsDrained c n) c e
 left_round R c d e n m file count a g more =
     let own = subst (λ x. GoesBy (IsRound c x) d e) count (with_file (λ f. GoesBy (drain.IsRound (play_of f) m) d e) c d file g) in
@@ -124,7 +124,7 @@ left_round R c d e n m file count a g more =
       rest_of = λ ts v r. round_rest (file_in c) n (world_in d) (world_in e) v own.turns ts (has_turns d e own.turns own.counts more) own.by r;
     })
 
-pub first_round : (R : Leads) (c d e : DeskWorld) (n m : ℕ) → file_in d ≡ file_in c → m ≡ n → Leaves R (IsDrained c n) c d → GoesFirst (IsRound d m) d e → GoesFirst R c e
+pub first_round : (R : Leads) (c d e : ForwarderWorld) (n m : ℕ) → file_in d ≡ file_in c → m ≡ n → Leaves R (IsDrained c n) c d → GoesFirst (IsRound d m) d e → GoesFirst R c e
 first_round R c d e n m file count a b =
     let own = subst (λ x. GoesFirst (IsRound c x) d e) count (with_file (λ f. GoesFirst (drain.IsRound (play_of f) m) d e) c d file b) in
     left_on R (IsDrained c n) Anything c d e a

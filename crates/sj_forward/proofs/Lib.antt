@@ -1,12 +1,11 @@
 pub mod ResultLemmas
 pub mod SlotLemmas
-pub mod SetLemmas
 pub mod FoundLemmas
 pub mod WriteLemmas
 pub mod EndsLemmas
 pub mod RoomLemmas
 pub mod LaneLemmas
-pub mod DeskLemmas
+pub mod ForwarderLemmas
 pub mod ActLemmas
 pub mod TakeLemmas
 pub mod DelegateLemmas
@@ -15,7 +14,7 @@ pub mod LawLemmas
 pub mod SameLemmas
 pub mod StepLemmas
 pub mod ListLemmas
-pub mod DeskWorldLemmas
+pub mod ForwarderWorldLemmas
 pub mod StartLemmas
 pub mod FirstLemmas
 pub mod ReadyLemmas
@@ -26,6 +25,5 @@ pub mod DrainLemmas
 pub mod FrontLemmas
 pub mod RoundLemmas
 pub mod BreakLemmas
-pub mod OfferLemmas
 pub mod TurnLemmas
 pub mod WorldLemmas

@@ -16,12 +16,12 @@ use Rattle.sj_rules.specs.Party.{nobody, play_for, play_of, want_for, want_or_en
 use Rattle.sj_rules.specs.Halts.{is_at_end}
 use Rattle.sj_rules.specs.Play as rules
 use Rattle.sj_rules.specs.World.{Act}
-use Rattle.sj_forward.specs.declared.desk_world.DeskWorld.{DeskWorld}
-use Rattle.sj_forward.specs.declared.desk.Desk.{Desk}
-use Rattle.sj_forward.specs.DeskWorld.{IsReached, Wants, desks_in, file_in, node_or, program_in, world_in}
-use Rattle.sj_forward.specs.Desk.{Acts, Does, HasAct, DeskStays, desk_at}
-use Rattle.sj_forward.proofs.DeskWorldLemmas.{accepted, act_there, file, plain_run_of, run_of}
-use Rattle.sj_forward.proofs.DeskLemmas.{did}
+use Rattle.sj_forward.specs.declared.forwarder_world.ForwarderWorld.{ForwarderWorld}
+use Rattle.sj_forward.specs.declared.forwarder.Forwarder.{Forwarder}
+use Rattle.sj_forward.specs.ForwarderWorld.{IsReached, Wants, forwarders_in, file_in, node_or, program_in, world_in}
+use Rattle.sj_forward.specs.Forwarder.{Acts, Does, HasAct, ForwarderStays, forwarder_at}
+use Rattle.sj_forward.proofs.ForwarderWorldLemmas.{accepted, act_there, file, plain_run_of, run_of}
+use Rattle.sj_forward.proofs.ForwarderLemmas.{did}
 use Rattle.sj_forward.proofs.LawLemmas as laws
 use Rattle.sj_forward.proofs.SlotLemmas.{some_same}
 use Rattle.sj_forward_rules.specs.Acts.{act_by, acts}
@@ -79,11 +79,11 @@ act_row ps k p n done is = by (not (nat_lt n.program.steps 10000)) is
     by true h = absurd (cc h)
     by false h = h
 
-module _ (c : DeskWorld) (r : IsReached c) (p : ℕ) (desk : Desk) (want : Want) (there : slice_get (desks_in c) p ≡ Some desk) (wanted : Wants c.plain p want) where
+module _ (c : ForwarderWorld) (r : IsReached c) (p : ℕ) (forwarder : Forwarder) (want : Want) (there : slice_get (forwarders_in c) p ≡ Some forwarder) (wanted : Wants c.plain p want) where
   abbrev g : Program
   g = program_in c.plain p
 
-  pub node_is : (world_in c).nodes p ≡ desk_at g desk
+  pub node_is : (world_in c).nodes p ≡ forwarder_at g forwarder
   node_is = ap (node_or g (first_node (file_in c) p)) there
 
   wants_so : (ps : List ProtocolAt) → want_or_ended ps (want_of g) ≡ want_for ps want
@@ -91,11 +91,11 @@ module _ (c : DeskWorld) (r : IsReached c) (p : ℕ) (desk : Desk) (want : Want)
 
   -- whether the party is ready
   pub ready_told : (steps : ℕ) (ready : Bool) → option_map (λ (x : Program). x.steps) (slice_get (world_at c.plain).parties p) ≡ Some steps
-      → ((ps : List ProtocolAt) (k : Program) → ready ≡ is_ready (state_by (desk_at k desk) (want_for ps want)))
+      → ((ps : List ProtocolAt) (k : Program) → ready ≡ is_ready (state_by (forwarder_at k forwarder) (want_for ps want)))
       → has_step (play_of (file_in c)) (world_in c) p Act ≡ (nat_lt steps 10000 && ready)
   ready_told steps ready counted told =
       let ps = (file_in c).protocols in
-      let n = desk_at g desk in
+      let n = forwarder_at g forwarder in
       ap (λ (m : NodeAt Program). is_ready (state_at (play_of (file_in c)) m)) node_is
       ∙ (λ i. is_ready (if is_at_end (wants_so ps i) then states.Ended else if not (nat_lt (program_steps c.plain p steps counted i) 10000) then states.AtLimit limits.Steps else state_by n (wants_so ps i)))
       ∙ ready_if n (want_for ps want) (nat_lt steps 10000)
@@ -106,13 +106,13 @@ module _ (c : DeskWorld) (r : IsReached c) (p : ℕ) (desk : Desk) (want : Want)
     pub done_there : (done : Worked Program) × (acts (play_of (file c r)) p ((world_in c).nodes p) ≡ Some done)
     done_there = act_there c r p ready
 
-    pub row_there : act_by (play_of (file c r)) p (desk_at g desk) (want_for (file c r).protocols want) ≡ Some done_there.0
+    pub row_there : act_by (play_of (file c r)) p (forwarder_at g forwarder) (want_for (file c r).protocols want) ≡ Some done_there.0
     row_there =
-        ap (act_by (play_of (file c r)) p (desk_at g desk)) (sym (wants_so (file c r).protocols))
-        ∙ act_row (file c r).protocols (length (file c r).parties) p (desk_at g desk) done_there.0 (ap (acts (play_of (file c r)) p) (sym node_is) ∙ done_there.1)
+        ap (act_by (play_of (file c r)) p (forwarder_at g forwarder)) (sym (wants_so (file c r).protocols))
+        ∙ act_row (file c r).protocols (length (file c r).parties) p (forwarder_at g forwarder) done_there.0 (ap (acts (play_of (file c r)) p) (sym node_is) ∙ done_there.1)
 
-    -- its desk can do it, and the plain world
-    pub has_act : (mid : Desk) → DeskStays desk mid → HasAct p want mid
+    -- its forwarder can do it, and the plain world
+    pub has_act : (mid : Forwarder) → ForwarderStays forwarder mid → HasAct p want mid
     has_act mid rests = record {
       play = play_of (file c r);
       protocols = (file c r).protocols;
@@ -127,10 +127,10 @@ module _ (c : DeskWorld) (r : IsReached c) (p : ℕ) (desk : Desk) (want : Want)
         (subst (λ (ps : List ℕ). IsRun (file c r) ps (world_at c.plain)) r.led.acts (plain_run_of c r (acts_of c.plain) (world_at c.plain) r.led.plain))
         (ap (λ (f : FileAt). is_ready (state_at (play_of f) ((world_in c).nodes p))) (sym r.accepted.same) ∙ ready)
 
-    -- the desk does it
-    pub does_act : (mid new : Desk) → DeskStays desk mid → Acts p want mid new → Does desk done_there.0 new
+    -- the forwarder does it
+    pub does_act : (mid new : Forwarder) → ForwarderStays forwarder mid → Acts p want mid new → Does forwarder done_there.0 new
     does_act mid new rests acts =
-        let row : act_by (play_of (file c r)) p (desk_at g mid) (want_for (file c r).protocols want) ≡ Some done_there.0 =
+        let row : act_by (play_of (file c r)) p (forwarder_at g mid) (want_for (file c r).protocols want) ≡ Some done_there.0 =
         ap (λ (n : NodeAt Program). act_by (play_of (file c r)) p n (want_for (file c r).protocols want)) (rests.node g) ∙ row_there in
         let own : Does mid done_there.0 new = did mid new _ done_there.0 row (acts (play_of (file c r)) (file c r).protocols g) in
         record { node = own.node; posts = λ q. own.posts q ∙ ap (λ (fs : List FrameAt). fs ++ frames_for q done_there.0.posts) (rests.posts q) }

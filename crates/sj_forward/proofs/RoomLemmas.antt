@@ -10,7 +10,7 @@ use Rattle.sj_forward.specs.declared.records.Record.{Record}
 use Rattle.sj_forward.specs.declared.slot.Slot.{Slot}
 use Rattle.sj_forward.specs.Views.{record_at}
 use Rattle.sj_forward.specs.Ends.{EndsStay, Rows, SideStays, record_in, records_in, slot_in, uses_in}
-use Rattle.sj_forward.proofs.SetLemmas.{set_here, set_there}
+use Rattle.sj_offers.proofs.SetLemmas.{set_here, set_there}
 
 pub ends_both : (old mid new : Rows) → EndsStay old mid → EndsStay mid new → EndsStay old new
 ends_both old mid new a b = record { uses = b.uses ∙ a.uses; records = b.records ∙ a.records }

@@ -6,11 +6,11 @@ use Rattle.sj_rules.specs.Drain.{numbers_from}
 use Rattle.sj_rules.specs.Party.{play_of}
 use Rattle.sj_rules.specs.Play.{Play}
 use Rattle.sj_rules.specs.World.{Turn}
-use Rattle.sj_forward.specs.declared.desk_world.DeskWorld.{DeskWorld}
-use Rattle.sj_forward.specs.DeskWorld.{Counts, IsReached, desks_in, file_in, world_in}
+use Rattle.sj_forward.specs.declared.forwarder_world.ForwarderWorld.{ForwarderWorld}
+use Rattle.sj_forward.specs.ForwarderWorld.{Counts, IsReached, forwarders_in, file_in, world_in}
 use Rattle.sj_forward.specs.Draining.{ActsOut, Ahead, Empties, EmptiesEach, GoesBy, IsDrained, IsRound, Leads, TakeTurns, TakesTurn, events_left}
 use Rattle.sj_forward.proofs.CountLemmas.{counts_joined}
-use Rattle.sj_forward.proofs.DeskWorldLemmas.{few_events}
+use Rattle.sj_forward.proofs.ForwarderWorldLemmas.{few_events}
 use Rattle.sj_forward.proofs.LawLemmas.{drained_quiet}
 use Rattle.sj_forward_rules.specs.Drain as drain
 use Rattle.sj_forward_rules.specs.World.{IsQuietAmong, WorldAt}
@@ -42,14 +42,14 @@ module _ {P Q : Type 0} (play : Play P Q) where
       (h.0, (h.1.0 ++ us, (h.1.1.0, (ap (λ t. t ++ us) h.1.1.1.0 ∙ append_assoc h.0 h.1.0 us, h.1.1.1.1, turns_on n q qs h.1.1.0 mid v h.1.0 us h.1.1.1.2 k))))
 
 -- one after the other
-joined : (R S T : Leads) (c d e : DeskWorld) → ((ts us : List Turn) → R (world_in c) ts (world_in d) → S (world_in d) us (world_in e) → T (world_in c) (ts ++ us) (world_in e)) → GoesBy R c d → GoesBy S d e → GoesBy T c e
+joined : (R S T : Leads) (c d e : ForwarderWorld) → ((ts us : List Turn) → R (world_in c) ts (world_in d) → S (world_in d) us (world_in e) → T (world_in c) (ts ++ us) (world_in e)) → GoesBy R c d → GoesBy S d e → GoesBy T c e
 joined R S T c d e f a b = record {
   turns = a.turns ++ b.turns;
   counts = counts_joined c d e a.turns b.turns a.counts b.counts;
   by = f a.turns b.turns a.by b.by;
 }
 
-pub goes_each : (c d e : DeskWorld) (p k : ℕ) → file_in d ≡ file_in c → GoesBy (EmptiesEach c p (numbers_from 0 k)) c d → GoesBy (Empties d p k) d e → GoesBy (EmptiesEach c p (numbers_from 0 (k + 1))) c e
+pub goes_each : (c d e : ForwarderWorld) (p k : ℕ) → file_in d ≡ file_in c → GoesBy (EmptiesEach c p (numbers_from 0 k)) c d → GoesBy (Empties d p k) d e → GoesBy (EmptiesEach c p (numbers_from 0 (k + 1))) c e
 goes_each c d e p k file a b =
     subst (λ (qs : List ℕ). GoesBy (EmptiesEach c p qs) c e) (sym (numbers_more k))
     (joined (EmptiesEach c p (numbers_from 0 k)) (Empties d p k) (EmptiesEach c p (numbers_from 0 k ++ k ∷ [])) c d e
@@ -57,13 +57,13 @@ goes_each c d e p k file a b =
     (subst (λ (f : FileAt). drain.Empties (play_of f) p k (world_in d) us (world_in e)) file s))
     a b)
 
-pub takes_turn : (c d e : DeskWorld) (n p : ℕ) → file_in d ≡ file_in c → GoesBy (EmptiesEach c p (numbers_from 0 n)) c d → GoesBy (ActsOut d p) d e → GoesBy (TakesTurn c n p) c e
+pub takes_turn : (c d e : ForwarderWorld) (n p : ℕ) → file_in d ≡ file_in c → GoesBy (EmptiesEach c p (numbers_from 0 n)) c d → GoesBy (ActsOut d p) d e → GoesBy (TakesTurn c n p) c e
 takes_turn c d e n p file a b =
     joined (EmptiesEach c p (numbers_from 0 n)) (ActsOut d p) (TakesTurn c n p) c d e
     (λ ts us r s. (ts, (us, (world_in d, (refl, r, subst (λ (f : FileAt). drain.ActsOut (play_of f) p (world_in d) us (world_in e)) file s)))))
     a b
 
-pub goes_turn : (c d e : DeskWorld) (n m k : ℕ) → file_in d ≡ file_in c → m ≡ n → GoesBy (TakeTurns c n (numbers_from 0 k)) c d → GoesBy (TakesTurn d m k) d e → GoesBy (TakeTurns c n (numbers_from 0 (k + 1))) c e
+pub goes_turn : (c d e : ForwarderWorld) (n m k : ℕ) → file_in d ≡ file_in c → m ≡ n → GoesBy (TakeTurns c n (numbers_from 0 k)) c d → GoesBy (TakesTurn d m k) d e → GoesBy (TakeTurns c n (numbers_from 0 (k + 1))) c e
 goes_turn c d e n m k file count a b =
     subst (λ (qs : List ℕ). GoesBy (TakeTurns c n qs) c e) (sym (numbers_more k))
     (joined (TakeTurns c n (numbers_from 0 k)) (TakesTurn d m k) (TakeTurns c n (numbers_from 0 k ++ k ∷ [])) c d e
@@ -73,20 +73,20 @@ goes_turn c d e n m k file count a b =
     a b)
 
 -- a round, for the file and the parties of the beginning
-round_of : (c d e : DeskWorld) (n m : ℕ) (ts : List Turn) → file_in d ≡ file_in c → m ≡ n → IsRound d m (world_in d) ts (world_in e) → IsRound c n (world_in d) ts (world_in e)
+round_of : (c d e : ForwarderWorld) (n m : ℕ) (ts : List Turn) → file_in d ≡ file_in c → m ≡ n → IsRound d m (world_in d) ts (world_in e) → IsRound c n (world_in d) ts (world_in e)
 round_of c d e n m ts file count r =
     subst (λ (x : ℕ). drain.IsRound (play_of (file_in c)) x (world_in d) ts (world_in e)) count
     (subst (λ (f : FileAt). drain.IsRound (play_of f) m (world_in d) ts (world_in e)) file r)
 
--- a world of desks with more events had turns
-pub has_turns : (d e : DeskWorld) (ts : List Turn) → Counts d ts e → d.events < e.events → ts ≢ []
+-- a world of forwarders with more events had turns
+pub has_turns : (d e : ForwarderWorld) (ts : List Turn) → Counts d ts e → d.events < e.events → ts ≢ []
 has_turns d e ts counts more none =
     let all = counts.events in
     let size : length ts ≡ 0 = ap length none in
     absurd (omega (arith, all, size, more))
 
 -- a round with an event
-pub ahead_round : (c d e : DeskWorld) (n m : ℕ) → file_in d ≡ file_in c → m ≡ n → Ahead (IsDrained c n) c d → GoesBy (IsRound d m) d e → d.events < e.events → Ahead (IsDrained c n) c e
+pub ahead_round : (c d e : ForwarderWorld) (n m : ℕ) → file_in d ≡ file_in c → m ≡ n → Ahead (IsDrained c n) c d → GoesBy (IsRound d m) d e → d.events < e.events → Ahead (IsDrained c n) c e
 ahead_round c d e n m file count a b more =
     let some = has_turns d e b.turns b.counts more in
     record {
@@ -102,7 +102,7 @@ nothing [] h = refl
 nothing (x ∷ xs) h = absurd (omega (arith, h))
 
 -- a round without an event
-pub drained : (c d e : DeskWorld) (n m : ℕ) → file_in d ≡ file_in c → m ≡ n → Ahead (IsDrained c n) c d → GoesBy (IsRound d m) d e → e.events ≡ d.events → GoesBy (IsDrained c n) c e
+pub drained : (c d e : ForwarderWorld) (n m : ℕ) → file_in d ≡ file_in c → m ≡ n → Ahead (IsDrained c n) c d → GoesBy (IsRound d m) d e → e.events ≡ d.events → GoesBy (IsDrained c n) c e
 drained c d e n m file count a b same =
     let all = b.counts.events in
     let none : b.turns ≡ [] = nothing b.turns (omega (arith, all, same)) in
@@ -116,11 +116,11 @@ drained c d e n m file count a b same =
     }
 
 -- more events leave fewer
-pub fewer_after : (d e : DeskWorld) → IsReached e → d.events < e.events → events_left e < events_left d
+pub fewer_after : (d e : ForwarderWorld) → IsReached e → d.events < e.events → events_left e < events_left d
 fewer_after d e reached more = let low : e.events < 2 ^ 63 = few_events e reached in omega (arith, low, more)
 
 -- a drain leaves nothing to do
-pub left_quiet : (c e : DeskWorld) (n : ℕ) → file_in e ≡ file_in c → length (desks_in e) ≡ n → GoesBy (IsDrained c n) c e → IsQuietAmong (play_of (file_in e)) (length (desks_in e)) (world_in e)
+pub left_quiet : (c e : ForwarderWorld) (n : ℕ) → file_in e ≡ file_in c → length (forwarders_in e) ≡ n → GoesBy (IsDrained c n) c e → IsQuietAmong (play_of (file_in e)) (length (forwarders_in e)) (world_in e)
 left_quiet c e n file count goes =
     subst (λ (m : ℕ). IsQuietAmong (play_of (file_in e)) m (world_in e)) (sym count)
     (subst (λ (f : FileAt). IsQuietAmong (play_of f) n (world_in e)) (sym file)

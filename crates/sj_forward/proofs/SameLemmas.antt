@@ -1,7 +1,7 @@
 -- A forwarding world before any event needs no words of its file.
 use Rattle.std.proofs.Common.{◌≡◌, ℕ, ◌*◌, [], length, slice_get, unwrap_or, ap}
 use Rattle.sj_lang.specs.FileAt.{FileAt}
-use Rattle.sj_plain.specs.Kept.{without_words}
+use Rattle.sj_plain.specs.SharedFile.{without_words}
 use Rattle.sj_plain.proofs.BeginLemmas.{start_same}
 use Rattle.sj_rules.specs.Party.{nobody}
 use Rattle.sj_semantics.specs.Program.{limit_of_steps}

@@ -10,10 +10,10 @@ use Rattle.sj_lang.specs.declared.file.Connect.{Connect}
 use Rattle.sj_lang.specs.FileAt.{FileAt, ConnectAt, PartyAt, party_named}
 use Rattle.sj_lang.specs.FileView.{connect_of as connect_seen}
 use Rattle.sj_rules.specs.Start.{connect_of}
-use Rattle.sj_forward.specs.declared.desk.Desk.{Desk}
+use Rattle.sj_forward.specs.declared.forwarder.Forwarder.{Forwarder}
 use Rattle.sj_forward.specs.declared.slot.Slot.{Slot}
 use Rattle.sj_forward.specs.Ends.{Rows, record_in, records_in, slot_in, uses_in}
-use Rattle.sj_forward.specs.Offers.{offers_in}
+use Rattle.sj_offers.specs.Offers.{offers_in}
 use Rattle.sj_forward.specs.Outs.{Outs, lane_in}
 use Rattle.sj_forward.specs.Starting.{AreFirst, AreFirstRows, IsFirst, IsFirstRow, IsFirstSlot}
 use Rattle.sj_forward.proofs.SlotLemmas.{some_same}
@@ -132,9 +132,9 @@ module _ (file : FileAt) (p : ℕ) where
         apart false None = refl
         apart false (Some c) = refl
 
-  -- a desk with these slots and nothing else
-  pub desk_first : (d : Desk) → AreFirstRows file p (length file.connects) d.ends.items → d.requests ≡ 0 → d.offers.items ≡ [] → d.outs.items ≡ [] → IsFirst file p d
-  desk_first d all requests offers outs = record {
+  -- a forwarder with these slots and nothing else
+  pub forwarder_first : (d : Forwarder) → AreFirstRows file p (length file.connects) d.ends.items → d.requests ≡ 0 → d.offers.items ≡ [] → d.outs.items ≡ [] → IsFirst file p d
+  forwarder_first d all requests offers outs = record {
     node = λ g i. record {
       program = g;
       requests = requests i;
@@ -147,12 +147,12 @@ module _ (file : FileAt) (p : ℕ) where
 
 -- ---- all parties
 
-pub one_desk : (file : FileAt) (k : ℕ) (desks : List Desk) (d : Desk) → AreFirst file k desks → IsFirst file k d → AreFirst file (k + 1) (desks ++ d ∷ [])
-one_desk file k desks d rest first = record {
-  count = length-append desks (d ∷ []) ∙ ap (λ n. n + 1) rest.count;
+pub one_forwarder : (file : FileAt) (k : ℕ) (forwarders : List Forwarder) (d : Forwarder) → AreFirst file k forwarders → IsFirst file k d → AreFirst file (k + 1) (forwarders ++ d ∷ [])
+one_forwarder file k forwarders d rest first = record {
+  count = length-append forwarders (d ∷ []) ∙ ap (λ n. n + 1) rest.count;
   each = λ p x is.
-      elim (behind desks d p x is) [
+      elim (behind forwarders d p x is) [
         | inl before ↦ rest.each p x before
-        | inr last ↦ subst (λ (n : ℕ). IsFirst file n x) (sym (last.0 ∙ rest.count)) (subst (λ (y : Desk). IsFirst file k y) (sym last.1) first)
+        | inr last ↦ subst (λ (n : ℕ). IsFirst file n x) (sym (last.0 ∙ rest.count)) (subst (λ (y : Forwarder). IsFirst file k y) (sym last.1) first)
       ];
 }

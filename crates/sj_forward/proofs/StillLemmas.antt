@@ -1,4 +1,4 @@
--- Worlds of desks that contracts see as before.
+-- Worlds of forwarders that contracts see as before.
 use Rattle.std.proofs.Common.{◌≡◌, ◌≢◌, ℕ, List, length, slice_get, unwrap_or, Option, Some, None, refl, ap, sym, ◌∙◌, subst, inl, inr}
 use Rattle.std.proofs.Math.ListN.{set}
 use Rattle.std.proofs.lemmas.Bool.{cases_eq}
@@ -12,50 +12,50 @@ use Rattle.sj_semantics.specs.Run.{IsRun}
 use Rattle.sj_semantics.specs.World.{World}
 use Rattle.sj_rules.specs.Party.{nobody}
 use Rattle.sj_rules.specs.World.{Turn}
-use Rattle.sj_forward.specs.declared.desk_world.DeskWorld.{DeskWorld}
-use Rattle.sj_forward.specs.declared.desk.Desk.{Desk}
-use Rattle.sj_forward.specs.DeskWorld.{IsLedBy, IsReached, PlainStays, StaysIn, desks_in, file_in, lane_or, node_or, program_in, world_by, world_in}
-use Rattle.sj_forward.specs.Desk.{DeskStays}
-use Rattle.sj_forward.proofs.SetLemmas.{set_here, set_there}
+use Rattle.sj_forward.specs.declared.forwarder_world.ForwarderWorld.{ForwarderWorld}
+use Rattle.sj_forward.specs.declared.forwarder.Forwarder.{Forwarder}
+use Rattle.sj_forward.specs.ForwarderWorld.{IsLedBy, IsReached, PlainStays, StaysIn, forwarders_in, file_in, lane_or, node_or, program_in, world_by, world_in}
+use Rattle.sj_forward.specs.Forwarder.{ForwarderStays}
+use Rattle.sj_offers.proofs.SetLemmas.{set_here, set_there}
 use Rattle.sj_forward_rules.specs.Start.{IsForwardRun, first_node}
 use Rattle.sj_forward_rules.specs.World.{WorldAt}
 
--- a world whose desks and plain world are as before
-pub world_rests : (plain mid : Plain) (desks : List Desk) (p : ℕ) (old new : Desk) → PlainStays plain mid → slice_get desks p ≡ Some old → DeskStays old new
-    → world_by mid (set desks p new) ≡ world_by plain desks
-world_rests plain mid desks p old new same there rests = λ i. record { nodes = λ q. node_is q i; lanes = λ from to. lane_is from to i }
+-- a world whose forwarders and plain world are as before
+pub world_rests : (plain mid : Plain) (forwarders : List Forwarder) (p : ℕ) (old new : Forwarder) → PlainStays plain mid → slice_get forwarders p ≡ Some old → ForwarderStays old new
+    → world_by mid (set forwarders p new) ≡ world_by plain forwarders
+world_rests plain mid forwarders p old new same there rests = λ i. record { nodes = λ q. node_is q i; lanes = λ from to. lane_is from to i }
   where
-    here : slice_get (set desks p new) p ≡ Some new
-    here = set_here desks p new (slice_get_within desks p old there)
+    here : slice_get (set forwarders p new) p ≡ Some new
+    here = set_here forwarders p new (slice_get_within forwarders p old there)
 
     program_is : (q : ℕ) → program_in mid q ≡ program_in plain q
     program_is q = ap (λ (w : World). unwrap_or (slice_get w.parties q) nobody) same.world
 
-    node_is : (q : ℕ) → node_or (program_in mid q) (first_node (kept_file mid) q) (slice_get (set desks p new) q) ≡ node_or (program_in plain q) (first_node (kept_file plain) q) (slice_get desks q)
+    node_is : (q : ℕ) → node_or (program_in mid q) (first_node (kept_file mid) q) (slice_get (set forwarders p new) q) ≡ node_or (program_in plain q) (first_node (kept_file plain) q) (slice_get forwarders q)
     node_is q =
-        (λ i. node_or (program_is q i) (first_node (same.file i) q) (slice_get (set desks p new) q))
+        (λ i. node_or (program_is q i) (first_node (same.file i) q) (slice_get (set forwarders p new) q))
         ∙ elim (cases_eq q p) [
           | inl is ↦
               rw is
               (ap (node_or (program_in plain p) (first_node (kept_file plain) p)) here ∙ rests.node (program_in plain p)
               ∙ sym (ap (node_or (program_in plain p) (first_node (kept_file plain) p)) there))
-          | inr other ↦ ap (node_or (program_in plain q) (first_node (kept_file plain) q)) (set_there desks p q new other)
+          | inr other ↦ ap (node_or (program_in plain q) (first_node (kept_file plain) q)) (set_there forwarders p q new other)
         ]
 
-    lane_is : (from to : ℕ) → lane_or (slice_get (set desks p new) from) to ≡ lane_or (slice_get desks from) to
+    lane_is : (from to : ℕ) → lane_or (slice_get (set forwarders p new) from) to ≡ lane_or (slice_get forwarders from) to
     lane_is from to =
         elim (cases_eq from p) [
           | inl is ↦ rw is (ap (λ o. lane_or o to) here ∙ rests.posts to ∙ sym (ap (λ o. lane_or o to) there))
-          | inr other ↦ ap (λ o. lane_or o to) (set_there desks p from new other)
+          | inr other ↦ ap (λ o. lane_or o to) (set_there forwarders p from new other)
         ]
 
 pub plain_still : (plain : Plain) → PlainStays plain plain
 plain_still plain = record { world = refl; acts = refl; file = refl }
 
-module _ (c d : DeskWorld) (p : ℕ) (old new : Desk) (there : slice_get (desks_in c) p ≡ Some old) (rests : DeskStays old new) (plain : PlainStays c.plain d.plain) (desks : desks_in d ≡ set (desks_in c) p new)
+module _ (c d : ForwarderWorld) (p : ℕ) (old new : Forwarder) (there : slice_get (forwarders_in c) p ≡ Some old) (rests : ForwarderStays old new) (plain : PlainStays c.plain d.plain) (forwarders : forwarders_in d ≡ set (forwarders_in c) p new)
     (passed : d.passed ≡ c.passed) (events : d.events ≡ c.events) where
   world_still : world_in d ≡ world_in c
-  world_still = ap (world_by d.plain) desks ∙ world_rests c.plain d.plain (desks_in c) p old new plain there rests
+  world_still = ap (world_by d.plain) forwarders ∙ world_rests c.plain d.plain (forwarders_in c) p old new plain there rests
 
   pub stays_in : StaysIn c d
   stays_in = record { world = world_still; plain = plain.world; acts = plain.acts; passed = passed; events = events; file = plain.file }
@@ -74,6 +74,6 @@ module _ (c d : DeskWorld) (p : ℕ) (old new : Desk) (there : slice_get (desks_
       passed = passed ∙ r.led.passed;
       events = events ∙ r.led.events;
     };
-    count = ap (λ (ds : List Desk). length ds) desks ∙ length-set (desks_in c) p new ∙ r.count ∙ ap (λ f. length f.parties) (sym plain.file);
+    count = ap (λ (ds : List Forwarder). length ds) forwarders ∙ length-set (forwarders_in c) p new ∙ r.count ∙ ap (λ f. length f.parties) (sym plain.file);
     parties = parties ∙ r.parties ∙ ap (λ f. length f.parties) (sym plain.file);
   }

@@ -12,7 +12,7 @@ use Rattle.sj_forward.specs.declared.slot.Slot.{Slot}
 use Rattle.sj_forward.specs.Ends.{Becomes, EndsStay, Rows, SlotStays, Writes, record_in, records_in, slot_in, uses_in}
 use Rattle.sj_forward.proofs.SlotLemmas.{one_other, one_same}
 use Rattle.sj_forward_rules.specs.Record.{RecordAt}
-use Rattle.sj_forward.proofs.SetLemmas.{set_here, set_there}
+use Rattle.sj_offers.proofs.SetLemmas.{set_here, set_there}
 use Rattle.sj_forward.proofs.FoundLemmas.{record_there, used_there}
 
 module _ (rows : Rows) (e : EndId) (row more : Vec Slot Global) (s new : Slot) (there : slice_get rows e.sess ≡ Some row) (here : slice_get row.items e.side ≡ Some s)

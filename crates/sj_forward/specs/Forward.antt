@@ -10,7 +10,7 @@ use Rattle.sj_rules.specs.World.{Deliver, Turn}
 use Rattle.sj_semantics.specs.Program.{Program}
 use Rattle.sj_semantics.specs.Run.{IsRun, end_of}
 use Rattle.sj_forward.specs.declared.forward.ForwardWorld.{ForwardWorld}
-use Rattle.sj_forward.specs.DeskWorld.{desks_in, world_in}
+use Rattle.sj_forward.specs.ForwarderWorld.{forwarders_in, world_in}
 use Rattle.sj_forward_rules.specs.Drain.{IsDrained, passed_in}
 use Rattle.sj_forward_rules.specs.Record.{FrameAt}
 use Rattle.sj_forward_rules.specs.Start.{IsForwardRun, forward_start}
@@ -34,7 +34,7 @@ passed_of w = w.passed
 
 -- how many parties there are
 abbrev pub party_count : ForwardWorld → ℕ
-party_count w = length (desks_in w)
+party_count w = length (forwarders_in w)
 
 -- some turns lead from the start of the file to it. Their acts are a plain run, which ends in its
 -- plain world; so many of them are deliveries; and the front frame of each lane fits

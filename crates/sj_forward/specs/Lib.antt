@@ -1,9 +1,8 @@
 pub mod Views
 pub mod Ends
 pub mod Outs
-pub mod Offers
-pub mod Desk
+pub mod Forwarder
 pub mod Starting
-pub mod DeskWorld
+pub mod ForwarderWorld
 pub mod Draining
 pub mod Forward

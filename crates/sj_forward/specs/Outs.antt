@@ -4,16 +4,16 @@ use Rattle.std.specs.VecDeque.{deque_len, deque_capacity}
 use Rattle.std.specs.declared.alloc.Global.{Global}
 use Rattle.std.specs.declared.collections.VecDeque.{VecDeque}
 use Rattle.sj_base.specs.declared.EndId.{EndId}
-use Rattle.sj_forward.specs.declared.frame.Frame.{Frame}
+use Rattle.sj_forward.specs.declared.frame.ForwardFrame.{ForwardFrame}
 use Rattle.sj_forward.specs.Views.{frame_at}
 use Rattle.sj_forward_rules.specs.Record.{SentAt, FrameAt, In}
 
 -- a lane for each party
 abbrev pub Outs : Type 0
-Outs = List (VecDeque Frame Global)
+Outs = List (VecDeque ForwardFrame Global)
 
 -- the frames of a lane, and none where there is no lane
-abbrev pub frames_in : Option (VecDeque Frame Global) → List FrameAt
+abbrev pub frames_in : Option (VecDeque ForwardFrame Global) → List FrameAt
 frames_in None = []
 frames_in (Some out) = map frame_at out.items
 
@@ -21,7 +21,7 @@ frames_in (Some out) = map frame_at out.items
 abbrev pub lane_in : Outs → ℕ → List FrameAt
 lane_in outs q = frames_in (slice_get outs q)
 
-abbrev pub room_of : Option (VecDeque Frame Global) → ℕ
+abbrev pub room_of : Option (VecDeque ForwardFrame Global) → ℕ
 room_of None = 0
 room_of (Some out) = deque_capacity out - deque_len out
 

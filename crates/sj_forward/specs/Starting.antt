@@ -4,9 +4,9 @@ use Rattle.std.specs.declared.alloc.Global.{Global}
 use Rattle.sj_base.specs.declared.EndId.{EndId}
 use Rattle.sj_lang.specs.FileAt.{FileAt, ConnectAt}
 use Rattle.sj_semantics.specs.Program.{Program}
-use Rattle.sj_forward.specs.declared.desk.Desk.{Desk}
+use Rattle.sj_forward.specs.declared.forwarder.Forwarder.{Forwarder}
 use Rattle.sj_forward.specs.declared.slot.Slot.{Slot}
-use Rattle.sj_forward.specs.Desk.{desk_at, lane_of}
+use Rattle.sj_forward.specs.Forwarder.{forwarder_at, lane_of}
 use Rattle.sj_forward.specs.Ends.{Rows, record_in}
 use Rattle.sj_forward_rules.specs.Node.{with_program}
 use Rattle.sj_forward_rules.specs.Start.{first_node, first_record, first_use}
@@ -27,11 +27,11 @@ pub record AreFirstRows (file : FileAt) (p many : ℕ) (rows : Rows) : Type 0 wh
   pub each : (sess : ℕ) (c : ConnectAt) (row : Vec Slot Global) → slice_get file.connects sess ≡ Some c → slice_get rows sess ≡ Some row → IsFirstRow file p sess c row.items
 
 -- the party before any event
-pub record IsFirst (file : FileAt) (p : ℕ) (d : Desk) : Type 0 where
-  pub node : (g : Program) → desk_at g d ≡ with_program g (first_node file p)
+pub record IsFirst (file : FileAt) (p : ℕ) (d : Forwarder) : Type 0 where
+  pub node : (g : Program) → forwarder_at g d ≡ with_program g (first_node file p)
   pub lanes : (q : ℕ) → lane_of d q ≡ []
 
 -- the first so many parties of the file
-pub record AreFirst (file : FileAt) (many : ℕ) (desks : List Desk) : Type 0 where
-  pub count : length desks ≡ many
-  pub each : (p : ℕ) (d : Desk) → slice_get desks p ≡ Some d → IsFirst file p d
+pub record AreFirst (file : FileAt) (many : ℕ) (forwarders : List Forwarder) : Type 0 where
+  pub count : length forwarders ≡ many
+  pub each : (p : ℕ) (d : Forwarder) → slice_get forwarders p ≡ Some d → IsFirst file p d

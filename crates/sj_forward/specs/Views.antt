@@ -1,8 +1,8 @@
 -- Messages, frames and records of the program, as the rules see them.
 use Rattle.std.specs.Prelude.{ℕ, map, length, slice_get, Option, option_map}
 use Rattle.sj_forward.specs.declared.frame.Sent.{Sent}
-use Rattle.sj_forward.specs.declared.frame.Frame.{Frame}
-use Rattle.sj_forward.specs.declared.frame.Frame.TheVariants as frames
+use Rattle.sj_forward.specs.declared.frame.ForwardFrame.{ForwardFrame}
+use Rattle.sj_forward.specs.declared.frame.ForwardFrame.TheVariants as frames
 use Rattle.sj_forward.specs.declared.records.Kind.{Kind}
 use Rattle.sj_forward.specs.declared.records.Kind.TheVariants as kinds
 use Rattle.sj_forward.specs.declared.records.Record.{Record}
@@ -20,7 +20,7 @@ sent_at s = record { msg = s.msg; hop = s.hop }
 abbrev pub sent_of : SentAt → Sent
 sent_of s = record { msg = s.msg; hop = s.hop }
 
-abbrev pub frame_at : Frame → FrameAt
+abbrev pub frame_at : ForwardFrame → FrameAt
 frame_at (frames.In e h s) = In e h (sent_at s)
 frame_at (frames.Out e h s) = Out e h (sent_at s)
 frame_at (frames.Claim e h) = Claim e h

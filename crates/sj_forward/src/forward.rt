@@ -1,20 +1,20 @@
 //! The forwarding world of an accepted file.
 ghost use Rattle.std.specs.Prelude.{◌≡◌, ◌↔◌, ◌+◌, ◌<◌, ◌++◌, [], Some, false, IfOk, IsErrOf, OnErr, OnOk, length};
 ghost use Rattle.sj_check.specs.Held.{file_in as held};
-ghost use Rattle.sj_forward.specs.DeskWorld.{ComesFrom, event_at};
+ghost use Rattle.sj_forward.specs.ForwarderWorld.{ComesFrom, event_at};
 ghost use Rattle.sj_forward.specs.Draining.{BreaksOff, GoesBy, IsDrained};
 ghost use Rattle.sj_forward_rules.specs.Drain.{deliveries_by};
 ghost use Rattle.sj_forward_rules.specs.Ready.{has_step};
 ghost use Rattle.sj_forward_rules.specs.Start.{forward_start};
 ghost use Rattle.sj_forward_rules.specs.World.{IsQuietAmong, happens};
 ghost use Rattle.sj_lang.specs.FileView.{file_of};
-ghost use Rattle.sj_plain.specs.Kept.{without_words};
+ghost use Rattle.sj_plain.specs.SharedFile.{without_words};
 ghost use Rattle.sj_plain.specs.Plain.{acts_of, world_at};
 ghost use Rattle.sj_rules.specs.Events.{acts_by};
 ghost use Rattle.sj_rules.specs.Party.{play_of};
 ghost use Rattle.sj_semantics.specs.Run.{end_of};
 
-use crate::desk_world::DeskWorld;
+use crate::forwarder_world::ForwarderWorld;
 use crate::{Turn, TurnRefusal};
 use sj_base::NoMemory;
 use sj_check::Accepted;
@@ -26,22 +26,22 @@ use std::marker::Model;
 /// turns so far have left them.
 #[derive(Drop)]
 pub struct ForwardWorld {
-    desk_world: DeskWorld,
+    forwarder_world: ForwarderWorld,
 }
 
 impl Model for ForwardWorld {
-    ghost use Rattle.sj_forward.specs.declared.desk_world.DeskWorld.{DeskWorld};
-    ghost use Rattle.sj_forward.specs.contracts.desk_world.DeskWorld as c;
+    ghost use Rattle.sj_forward.specs.declared.forwarder_world.ForwarderWorld.{ForwarderWorld};
+    ghost use Rattle.sj_forward.specs.contracts.forwarder_world.ForwarderWorld as c;
 
-    ghost Value = { DeskWorld };
+    ghost Value = { ForwarderWorld };
 
     ghost coded = { c.the_row.coded };
 
-    ghost use Rattle.sj_forward.specs.DeskWorld.{IsReached};
+    ghost use Rattle.sj_forward.specs.ForwarderWorld.{IsReached};
 
-    ghost view = { λ w. w.desk_world };
+    ghost view = { λ w. w.forwarder_world };
 
-    ghost invariant = { λ w. IsReached w.desk_world };
+    ghost invariant = { λ w. IsReached w.forwarder_world };
 }
 
 impl ForwardWorld {
@@ -59,8 +59,8 @@ impl ForwardWorld {
         ensures run { IfOk result (λ w. IsForwarded w) }
         ensures parties { IfOk result (λ w. party_count w ≡ length (kept_file w).parties) }
     {
-        let desk_world = DeskWorld::begin(alloc, accepted)?;
-        Ok(ForwardWorld { desk_world })
+        let forwarder_world = ForwarderWorld::begin(alloc, accepted)?;
+        Ok(ForwardWorld { forwarder_world })
     }
 
     /// The parties of the file after all turns.
@@ -99,7 +99,7 @@ impl ForwardWorld {
         ensures no_step { IsErrOf result TurnRefusal.NoStep ↔
             (has_step (play_of (kept_file self.old)) (forward_at self.old) party (event_at turn) ≡ false) }
     {
-        self.desk_world.step(party, turn)
+        self.forwarder_world.step(party, turn)
     }
 
     /// Does rounds until one has no turn. In a round each party, in order, takes the frames of each
@@ -120,14 +120,14 @@ impl ForwardWorld {
         ensures kept { kept_file self.new ≡ kept_file self.old }
         ensures parties { party_count self.new ≡ length (kept_file self.new).parties }
     {
-        self.desk_world.drain()
+        self.forwarder_world.drain()
     }
 
     /// How many frames were delivered.
     pub fn passed(&self) -> u64
         ensures { result ≡ passed_of self.now }
     {
-        self.desk_world.passed
+        self.forwarder_world.passed
     }
 
     /// The plain world that the acts have reached.
@@ -135,6 +135,6 @@ impl ForwardWorld {
         ensures value { result.now ≡ plain_of self.now }
         ensures parties { party_count self.now ≡ length (kept_file self.now).parties }
     {
-        &self.desk_world.plain
+        &self.forwarder_world.plain
     }
 }

@@ -15,7 +15,7 @@ pub struct Sent {
 
 /// A frame. An end has a record for each hop, and hop numbers count them in tables.
 #[derive(Clone, Copy)]
-pub enum Frame {
+pub enum ForwardFrame {
     /// A message for a record of the end that takes it.
     In { to: EndId, hop: usize, sent: Sent },
     /// A message back to a record of the end that sent it.
@@ -38,18 +38,18 @@ fn other_end(end: EndId) -> EndId
 
 /// The frame in which a message leaves the record of its end at that hop, for the party before that
 /// record.
-pub(crate) fn onward(end: EndId, hop: usize, sent: Sent) -> Frame
+pub(crate) fn onward(end: EndId, hop: usize, sent: Sent) -> ForwardFrame
     ensures { (behind : ℕ) → rules.onward end hop behind (sent_at sent)
         ≡ record { party = behind; frame = frame_at result } }
 {
     if hop == 0 {
-        Frame::In {
+        ForwardFrame::In {
             to: other_end(end),
             hop: 0,
             sent,
         }
     } else {
-        Frame::Out {
+        ForwardFrame::Out {
             of: end,
             hop: hop - 1,
             sent,

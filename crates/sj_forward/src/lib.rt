@@ -3,11 +3,11 @@
 
 mod acts;
 mod arrivals;
-mod desk;
-mod desk_world;
 mod drains;
 mod ends;
 mod forward;
+mod forwarder;
+mod forwarder_world;
 mod frame;
 mod lanes;
 mod offers;

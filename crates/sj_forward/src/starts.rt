@@ -5,13 +5,13 @@ ghost use Rattle.sj_forward.specs.Starting.{AreFirst, AreFirstRows, IsFirst, IsF
 ghost use Rattle.sj_lang.specs.FileAt.{ConnectAt, FileAt};
 ghost use Rattle.sj_lang.specs.FileView.{connect_of, decl_of, file_of, party_of};
 ghost use Rattle.sj_lang.specs.Limits.{limits};
-ghost use Rattle.sj_plain.specs.Kept.{without_words};
+ghost use Rattle.sj_plain.specs.SharedFile.{without_words};
 ghost use Rattle.sj_base.specs.declared.EndId.{EndId};
 ghost use Rattle.sj_rules.specs.Record.{other_end};
 ghost use Rattle.sj_rules.specs.Start.{declared_on};
 
-use crate::desk::Desk;
-use crate::desk_world::DeskWorld;
+use crate::forwarder::Forwarder;
+use crate::forwarder_world::ForwarderWorld;
 use crate::records::{Record, Stand};
 use crate::slot::Slot;
 use sj_base::NoMemory;
@@ -85,12 +85,12 @@ fn first_rows(alloc: Global, file: &File, party: u16) -> Result<Vec<Vec<Slot>>, 
 }
 
 /// The party before any event.
-fn first_desk(alloc: Global, file: &File, party: u16) -> Result<Desk, NoMemory>
+fn first_forwarder(alloc: Global, file: &File, party: u16) -> Result<Forwarder, NoMemory>
     requires { length (file_of file.now).parties ≤ limits.parties }
     ensures { IfOk result (λ d. IsFirst (file_of file.now) party d) }
 {
     let ends = first_rows(alloc, file, party)?;
-    Ok(Desk {
+    Ok(Forwarder {
         alloc,
         requests: 0,
         offers: Vec::new(alloc),
@@ -100,27 +100,27 @@ fn first_desk(alloc: Global, file: &File, party: u16) -> Result<Desk, NoMemory>
 }
 
 /// All parties before any event.
-fn first_desks(alloc: Global, file: &File) -> Result<Vec<Desk>, NoMemory>
+fn first_forwarders(alloc: Global, file: &File) -> Result<Vec<Forwarder>, NoMemory>
     requires { length (file_of file.now).parties ≤ limits.parties }
-    ensures { IfOk result (λ desks. AreFirst (file_of file.now)
-        (length (file_of file.now).parties) desks.items) }
+    ensures { IfOk result (λ forwarders. AreFirst (file_of file.now)
+        (length (file_of file.now).parties) forwarders.items) }
 {
-    let mut desks = Vec::new(alloc);
+    let mut forwarders = Vec::new(alloc);
     let parties = file.parties.len();
     for party in 0..parties {
-        let desk = first_desk(alloc, file, party as u16)?;
-        desks.push(desk)?;
+        let forwarder = first_forwarder(alloc, file, party as u16)?;
+        forwarders.push(forwarder)?;
     }
-    Ok(desks)
+    Ok(forwarders)
 }
 
-impl DeskWorld {
-    ghost use Rattle.sj_forward.specs.DeskWorld.{IsReached, file_in, world_in};
+impl ForwarderWorld {
+    ghost use Rattle.sj_forward.specs.ForwarderWorld.{IsReached, file_in, world_in};
     ghost use Rattle.sj_forward_rules.specs.Start.{forward_start};
     ghost use Rattle.sj_plain.specs.Plain.{acts_of};
 
     /// The parties of the file before any event, with nothing in their lanes.
-    pub fn begin(alloc: Global, accepted: &Accepted) -> Result<DeskWorld, NoMemory>
+    pub fn begin(alloc: Global, accepted: &Accepted) -> Result<ForwarderWorld, NoMemory>
         ensures reached { IfOk result (λ c. IsReached c) }
         ensures file { IfOk result (λ c. file_in c ≡ without_words (file_of (held accepted.now))) }
         ensures world { IfOk result (λ c. world_in c ≡ forward_start (file_of (held accepted.now))) }
@@ -128,11 +128,11 @@ impl DeskWorld {
         ensures passed { IfOk result (λ c. c.passed ≡ 0) }
     {
         let plain = Plain::start(alloc, accepted)?;
-        let desks = first_desks(alloc, accepted.file())?;
-        Ok(DeskWorld {
+        let forwarders = first_forwarders(alloc, accepted.file())?;
+        Ok(ForwarderWorld {
             alloc,
             plain,
-            desks,
+            forwarders,
             passed: 0,
             events: 0,
         })

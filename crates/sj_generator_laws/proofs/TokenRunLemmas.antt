@@ -7,7 +7,7 @@ use Rattle.sj_grammar.specs.Lexis.{token, next_of}
 use Rattle.sj_grammar.specs.Literals.{is_text, inner}
 use Rattle.sj_grammar.specs.Names.{is_name}
 use Rattle.sj_grammar.specs.Positions.{Piece, At, at, plain, first_on, spellings, TakesPiece, BeginsOnLines}
-use Rattle.sj_grammar.specs.Reading.{passed, line_at}
+use Rattle.sj_grammar.specs.Reading.{passed, line_number}
 use Rattle.sj_grammar.specs.Tables.{with_entry}
 use Rattle.sj_grammar.proofs.LexingLemmas.{read, passed_is}
 use Rattle.sj_grammar.proofs.LexedTableLemmas.{words_behind, texts_behind}
@@ -40,7 +40,7 @@ AreTaken [] rest = Unit {0}
 AreTaken (k ∷ ks) rest =
     (next_of (k.gap ++ (k.spelled ++ (text_of ks ++ rest))) ≡ token k.what k.spelled (text_of ks ++ rest)) × ((l : ℕ) → line_behind l k.spelled ≡ l) × AreTaken ks rest
 
-line_append : (before xs : List ℕ) → line_at (before ++ xs) ≡ line_behind (line_at before) xs
+line_append : (before xs : List ℕ) → line_number (before ++ xs) ≡ line_behind (line_number before) xs
 line_append before xs = fold-append (λ n b. if b == 10 then n + 1 else n) 1 before xs
 
 abbrev words_past : List (List ℕ) → List ℕ → List (List ℕ)
@@ -51,15 +51,15 @@ texts_past ts s = if is_text s then with_entry ts (inner s) else ts
 
 -- one token
 taken_on : (b : Bool) (before gap s x : List ℕ) (what : What) (ws ts : List (List ℕ)) → next_of (gap ++ (s ++ x)) ≡ token what s x
-    → TakesPiece (at (read before (gap ++ (s ++ x))) ws ts) (piece_on b (line_behind (line_at before) gap) s) (at (read (before ++ (gap ++ s)) x) (words_past ws s) (texts_past ts s))
+    → TakesPiece (at (read before (gap ++ (s ++ x))) ws ts) (piece_on b (line_behind (line_number before) gap) s) (at (read (before ++ (gap ++ s)) x) (words_past ws s) (texts_past ts s))
 taken_on b before gap s x what ws ts next =
     let after : passed (read before (gap ++ (s ++ x))) x ≡ before ++ (gap ++ s) = ap (λ t. passed (read before t) x) (sym (append_assoc gap s x)) ∙ passed_is before (gap ++ s) x in
-    let line : line_behind (line_at before) gap ≡ line_at (passed (read before (gap ++ (s ++ x))) (s ++ x)) = sym (ap line_at (passed_is before gap (s ++ x)) ∙ line_append before gap) in
+    let line : line_behind (line_number before) gap ≡ line_number (passed (read before (gap ++ (s ++ x))) (s ++ x)) = sym (ap line_number (passed_is before gap (s ++ x)) ∙ line_append before gap) in
     by_kind b (λ i. at (read (sym after i) x) (words_past ws s) (texts_past ts s)) line
   where
     by_kind : (c : Bool) → at (read (before ++ (gap ++ s)) x) (words_past ws s) (texts_past ts s) ≡ at (read (passed (read before (gap ++ (s ++ x))) x) x) (words_past ws s) (texts_past ts s)
-        → line_behind (line_at before) gap ≡ line_at (passed (read before (gap ++ (s ++ x))) (s ++ x))
-        → TakesPiece (at (read before (gap ++ (s ++ x))) ws ts) (piece_on c (line_behind (line_at before) gap) s) (at (read (before ++ (gap ++ s)) x) (words_past ws s) (texts_past ts s))
+        → line_behind (line_number before) gap ≡ line_number (passed (read before (gap ++ (s ++ x))) (s ++ x))
+        → TakesPiece (at (read before (gap ++ (s ++ x))) ws ts) (piece_on c (line_behind (line_number before) gap) s) (at (read (before ++ (gap ++ s)) x) (words_past ws s) (texts_past ts s))
     by_kind true there line = record { taken = record { what = what; rest = x; token = next; there = there }; line = line }
     by_kind false there line = record { taken = record { what = what; rest = x; token = next; there = there }; line = tt }
 
@@ -68,7 +68,7 @@ spelled_is true l s = refl
 spelled_is false l s = refl
 
 -- all tokens
-pub begins : (ks : List Tok) (before rest : List ℕ) (l : ℕ) (ws ts : List (List ℕ)) → line_at before ≡ l → AreTaken ks rest
+pub begins : (ks : List Tok) (before rest : List ℕ) (l : ℕ) (ws ts : List (List ℕ)) → line_number before ≡ l → AreTaken ks rest
     → BeginsOnLines (at (read before (text_of ks ++ rest)) ws ts) (pieces_of l ks) (at (read (before ++ text_of ks) rest) (words_behind ws (spellings (pieces_of l ks))) (texts_behind ts (spellings (pieces_of l ks))))
 begins [] before rest l ws ts on all = λ i. at (read (sym (append-nil before) i) rest) ws ts
 begins (k ∷ ks) before rest l ws ts on all =
@@ -79,7 +79,7 @@ begins (k ∷ ks) before rest l ws ts on all =
     let pieces = pieces_of l (k ∷ ks) in
     let others = spellings (pieces_of on_it ks) in
     let front = before ++ (k.gap ++ s) in
-    let line : line_at front ≡ on_it = line_append before (k.gap ++ s) ∙ fold-append (λ n b. if b == 10 then n + 1 else n) (line_at before) k.gap s ∙ all.1 (line_behind (line_at before) k.gap) ∙ ap (λ m. line_behind m k.gap) on in
+    let line : line_number front ≡ on_it = line_append before (k.gap ++ s) ∙ fold-append (λ n b. if b == 10 then n + 1 else n) (line_number before) k.gap s ∙ all.1 (line_behind (line_number before) k.gap) ∙ ap (λ m. line_behind m k.gap) on in
     let ahead = k.gap ++ (s ++ x) in
     let mid = at (read front x) (words_past ws s) (texts_past ts s) in
     let first : TakesPiece (at (read before ahead) ws ts) (piece_on k.opens on_it s) mid =

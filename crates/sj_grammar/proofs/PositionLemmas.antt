@@ -8,7 +8,7 @@ use Rattle.sj_grammar.specs.declared.tokens.What.{What}
 use Rattle.sj_grammar.specs.declared.tokens.Rule.{Rule}
 use Rattle.sj_grammar.specs.declared.tokens.Fault.{Fault}
 use Rattle.sj_grammar.specs.Lexis.{Ahead, at_end, bad, token, next_of}
-use Rattle.sj_grammar.specs.Reading.{Reading, line_at, column_at, passed, before_next, fault_at}
+use Rattle.sj_grammar.specs.Reading.{Reading, line_number, column_number, passed, before_next, fault_at}
 use Rattle.sj_grammar.proofs.SplitLemmas.{next_split}
 
 abbrev pub lines_from : ℕ → List ℕ → ℕ
@@ -36,9 +36,9 @@ columns_grow (b ∷ bs) l c e = by_test (columns_grow bs l (c + 1)) (b == 10) e
 
 pub two_places : (xs ys : List ℕ) (p q : Rule) → 0 < length ys → fault_at xs p ≡ fault_at (xs ++ ys) q → ⊥
 two_places xs ys p q some e =
-    let line : lines_from (line_at xs) ys ≡ line_at xs = sym (fold-append (λ n b. if b == 10 then n + 1 else n) 1 xs ys) ∙ sym (ap (λ (f : Fault). f.line) e) in
-    let column : columns_from (column_at xs) ys ≡ column_at xs = sym (fold-append (λ n b. if b == 10 then 1 else n + 1) 1 xs ys) ∙ sym (ap (λ (f : Fault). f.column) e) in
-    omega (arith, columns_grow ys (line_at xs) (column_at xs) line)
+    let line : lines_from (line_number xs) ys ≡ line_number xs = sym (fold-append (λ n b. if b == 10 then n + 1 else n) 1 xs ys) ∙ sym (ap (λ (f : Fault). f.line) e) in
+    let column : columns_from (column_number xs) ys ≡ column_number xs = sym (fold-append (λ n b. if b == 10 then 1 else n + 1) 1 xs ys) ∙ sym (ap (λ (f : Fault). f.column) e) in
+    omega (arith, columns_grow ys (line_number xs) (column_number xs) line)
 
 take_front : (xs ys : List ℕ) → take (length (xs ++ ys) - length ys) (xs ++ ys) ≡ xs
 take_front xs ys = let n : length (xs ++ ys) - length ys ≡ length xs = omega (arith, length-append xs ys) in ap (λ k. take k (xs ++ ys)) n ∙ take-append_seam xs ys

@@ -2,7 +2,7 @@
 use Rattle.std.specs.Prelude.{◌≡◌, ℕ, List, [], ◌∷◌, ◌++◌, Option, Some, None, IfSome, map, if◌then◌else◌}
 use Rattle.sj_grammar.specs.declared.tokens.What.{What}
 use Rattle.sj_grammar.specs.Lexis.{next_of, token}
-use Rattle.sj_grammar.specs.Reading.{Reading, passed, line_at}
+use Rattle.sj_grammar.specs.Reading.{Reading, passed, line_number}
 use Rattle.sj_grammar.specs.Names.{is_name}
 use Rattle.sj_grammar.specs.Literals.{is_text, inner}
 use Rattle.sj_grammar.specs.Tables.{with_entry}
@@ -65,7 +65,7 @@ spellings ps = map (λ p. p.spelled) ps
 -- the next token is that piece, on its line
 pub record TakesPiece (a : At) (p : Piece) (b : At) : Type 0 where
   pub taken : Takes a p.spelled b
-  pub line : IfSome p.line (λ l. l ≡ line_at (passed a.text (p.spelled ++ taken.rest)))
+  pub line : IfSome p.line (λ l. l ≡ line_number (passed a.text (p.spelled ++ taken.rest)))
 
 -- the tokens ahead are these pieces, each on its line, and the reader then stands there
 abbrev pub BeginsOnLines : At → List Piece → At → Type 0

@@ -14,11 +14,11 @@ pub record Reading : Type 0 where
   pub ahead : List ℕ
 
 -- lines and columns count from 1; a column is a byte
-abbrev pub line_at : List ℕ → ℕ
-line_at before = fold (λ n b. if b == 10 then n + 1 else n) 1 before
+abbrev pub line_number : List ℕ → ℕ
+line_number before = fold (λ n b. if b == 10 then n + 1 else n) 1 before
 
-abbrev pub column_at : List ℕ → ℕ
-column_at before = fold (λ n b. if b == 10 then 1 else n + 1) 1 before
+abbrev pub column_number : List ℕ → ℕ
+column_number before = fold (λ n b. if b == 10 then 1 else n + 1) 1 before
 
 -- what was read once only the rest is ahead
 abbrev pub passed : Reading → List ℕ → List ℕ
@@ -31,11 +31,11 @@ before_next r (bad rule rest) = passed r rest
 before_next r (token what spelled rest) = passed r (spelled ++ rest)
 
 abbrev pub fault_at : List ℕ → Rule → Fault
-fault_at before rule = record { rule = rule; line = line_at before; column = column_at before }
+fault_at before rule = record { rule = rule; line = line_number before; column = column_number before }
 
 abbrev pub token_at : List ℕ → What → List ℕ → Token
 token_at before what spelled =
-    record { what = what; from = length before; to = length before + length spelled; line = line_at before; column = column_at before }
+    record { what = what; from = length before; to = length before + length spelled; line = line_number before; column = column_number before }
 
 -- what a reader of tokens answers
 abbrev pub answer_to : Reading → Ahead → Result Token Fault

@@ -1,4 +1,5 @@
 -- What breaks the grammar, by the rule that is reported.
+use Rattle.std.specs.Prelude.{ℕ}
 use Rattle.sj_grammar.specs.declared.tokens.Rule.{Rule}
 use Rattle.sj_grammar.specs.declared.tokens.Rule.TheVariants.{P1, P2, P3, P4, P5}
 
@@ -21,3 +22,11 @@ over_limit = P4
 -- a text without its closing quote on its line
 abbrev pub open_text : Rule
 open_text = P5
+
+-- the number by which an answer names a rule
+abbrev pub rule_number : Rule → ℕ
+rule_number P1 = 1
+rule_number P2 = 2
+rule_number P3 = 3
+rule_number P4 = 4
+rule_number P5 = 5

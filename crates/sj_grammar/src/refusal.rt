@@ -2,12 +2,15 @@
 use crate::tokens::Fault;
 use sj_base::NoMemory;
 use std::alloc::AllocFailed;
+use thiserror::Error;
 
 /// Why a parser gives no value.
-#[derive(Clone, Copy, Debug, PartialEq, Eq)]
+#[derive(Clone, Copy, Debug, PartialEq, Eq, Error)]
 pub enum ParseRefusal {
     /// The text is outside the grammar: its first fault.
+    #[error("{0}")]
     At(Fault),
+    #[error("no memory")]
     NoMemory,
 }
 

@@ -1,4 +1,8 @@
 //! Tokens and faults, as readers answer them.
+ghost use Rattle.std.specs.Prelude.{◌≡◌};
+ghost use Rattle.sj_grammar.specs.Rules.{rule_number};
+
+use thiserror::Error;
 
 /// What a token is.
 #[derive(Clone, Copy, Debug, PartialEq, Eq)]
@@ -27,8 +31,24 @@ pub enum Rule {
     P5,
 }
 
+impl Rule {
+    /// Its number: that of P1 is 1.
+    pub fn number(self) -> u8
+        ensures { result ≡ rule_number self }
+    {
+        match self {
+            Rule::P1 => 1,
+            Rule::P2 => 2,
+            Rule::P3 => 3,
+            Rule::P4 => 4,
+            Rule::P5 => 5,
+        }
+    }
+}
+
 /// The first fault of a text. Lines and columns count from 1; a column is a byte.
-#[derive(Clone, Copy, Debug, PartialEq, Eq)]
+#[derive(Clone, Copy, Debug, PartialEq, Eq, Error)]
+#[error("P{} at {line}:{column}", .rule.number())]
 pub struct Fault {
     pub rule: Rule,
     pub line: u32,

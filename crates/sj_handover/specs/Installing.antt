@@ -10,7 +10,7 @@ use Rattle.sj_rules.specs.Rows.{Worked, install}
 use Rattle.sj_rules.specs.Limits.{limit_of_messages}
 use Rattle.sj_end.specs.Views.{deferred_at, post_at}
 use Rattle.sj_end.specs.declared.record.Expected.{Expected}
-use Rattle.sj_end.specs.declared.wire.Post.{Post}
+use Rattle.sj_end.specs.declared.frames.Post.{Post}
 use Rattle.sj_handover.specs.declared.deferrals.Tally.{Tally}
 use Rattle.sj_handover.specs.Working.{held_by}
 

@@ -12,7 +12,7 @@ ghost use Rattle.sj_rules.specs.Limits.{limit_of_messages};
 ghost use Rattle.sj_table.specs.declared.table.Spot.{Spot};
 
 use crate::deferrals::Tally;
-use sj_end::{Body, Deferred, End, Expected};
+use sj_end::{Body, Deferred, End, Expected, MAX_CONN};
 
 /// Whether the end fits the record: the resend is in its cache, and each deferred body fits in
 /// its turn.
@@ -154,7 +154,7 @@ fn fit_signal(end: &End, tally: &mut Tally, from: u16, conn: u32, party: u16, ta
     ensures base { end.now.base ≤ tally.new.base }
     ensures upto { tally.new.base ≤ end.now.sent }
 {
-    if conn != tally.conn || tally.conn >= 1000 || from != tally.peer {
+    if conn != tally.conn || tally.conn >= MAX_CONN || from != tally.peer {
         return false;
     }
     if taken < tally.base || end.sent < taken {

@@ -3,11 +3,11 @@ use Rattle.std.proofs.Common.{zero, suc, ◌≡◌, ℕ, ◌<◌, List, [], ◌�
 use Rattle.std.specs.Prelude.{Some, slice_get}
 use Rattle.std.proofs.lemmas.List.{map-append}
 use mathlib.Core.List.{IsPrefix}
-use Rattle.sj_end.specs.declared.wire.Frame.{Frame}
+use Rattle.sj_end.specs.declared.frames.Frame.{Frame}
 use Rattle.sj_lane.specs.Told.{told_frame, told_list}
 use Rattle.rtrb.specs.Ring.{sent}
 use Rattle.sj_lane.specs.declared.lane.Lanes.{Lanes}
-use Rattle.sj_lane.specs.Square.{out_at, in_at, IsSquare, Kept}
+use Rattle.sj_lane.specs.Square.{out_at, in_at, IsSquare, KeepsLists}
 use Rattle.sj_lane.specs.declared.ends.RingOut.{RingOut}
 use Rattle.sj_lane.specs.declared.ends.RingIn.{RingIn}
 use Rattle.sj_lane.specs.Rings.{Each2, LanesKept, Fed, popped_of}
@@ -44,7 +44,7 @@ told_prefix xs ys h = (told_list h.0, sym (map-append told_frame xs h.0) ∙ ap 
 
 pub kept_after : (L M : List (Lanes RingOut RingIn)) → IsSquare L → Each2 LanesKept L M
     → ((p q : ℕ) (o : RingOut) (i : RingIn) → q < length L → out_at L p q ≡ Some o → in_at L p q ≡ Some i → Fed o i)
-    → Kept {O = RingOut} {I = RingIn} (λ o. Some (told_list (sent o.producer))) (λ i. Some (told_list (popped_of i))) (λ o. o.vain) (λ i. i.vain) L (sent_in M) (got_in M) (vain_out_in M) (vain_in_in M)
+    → KeepsLists {O = RingOut} {I = RingIn} (λ o. Some (told_list (sent o.producer))) (λ i. Some (told_list (popped_of i))) (λ o. o.vain) (λ i. i.vain) L (sent_in M) (got_in M) (vain_out_in M) (vain_in_in M)
 kept_after L M square a fed = record {
   outs = λ p q o h. let x = out_forth L M p q o a h in rw x.1 (ap (λ fs. Some (told_list fs)) (sym x.2.sent), sym x.2.vain);
   ins = λ p q i h. let x = in_forth L M p q i a h in rw x.1 (ap (λ fs. Some (told_list fs)) (sym x.2.popped), sym x.2.vain);

@@ -5,7 +5,7 @@ use Rattle.std.specs.Prelude.{Bool, Option, Some, None, Result, Ok, Err, IfOk, I
 use Rattle.rtrb.specs.Ring.{sent}
 use Rattle.sj_lang.specs.Place.{Place}
 use Rattle.sj_rules.specs.Frames.{FrameAt}
-use Rattle.sj_end.specs.declared.wire.Frame.{Frame}
+use Rattle.sj_end.specs.declared.frames.Frame.{Frame}
 use Rattle.std.proofs.lemmas.List.{map-append}
 use Rattle.sj_lane.specs.Told.{told_frame, told_list}
 use Rattle.sj_lane.specs.declared.lane.Lanes.{Lanes}

@@ -11,7 +11,7 @@ use Rattle.sj_lane.specs.Mem.{IsCarried, frames_popped, frames_pushed}
 use Rattle.sj_lane.specs.MemCarry.{NoneWait, sender_waits, taker_waits}
 use Rattle.sj_lane.specs.MemKept.{got_in, sent_in, vain_in_in, vain_out_in}
 use Rattle.sj_lane.specs.MemRows.{AreNewIns, AreNewOuts, AreNewRows, IsNewIn, IsNewOut, IsNewRow}
-use Rattle.sj_lane.specs.Square.{AllJoined, IsFresh, IsSquare, Kept, in_at, out_at}
+use Rattle.sj_lane.specs.Square.{AllJoined, IsFresh, IsSquare, KeepsLists, in_at, out_at}
 use Rattle.sj_lane.proofs.BackLemmas.{square_in, square_out}
 use Rattle.sj_lane.proofs.SettleLemmas.{in_found, out_found}
 
@@ -82,7 +82,7 @@ module _ (n : ℕ) (L : List (Lanes MemOut MemIn)) (news : AreNewRows n n L) whe
 
 -- what the kept lanes show
 pub kept_back : (L : List (Lanes MemOut MemIn)) → IsSquare L → AllJoined IsCarried L →
-    Kept frames_pushed frames_popped (λ (o : MemOut). o.vain) (λ (i : MemIn). i.vain) L (sent_in L) (got_in L) (vain_out_in L) (vain_in_in L)
+    KeepsLists frames_pushed frames_popped (λ (o : MemOut). o.vain) (λ (i : MemIn). i.vain) L (sent_in L) (got_in L) (vain_out_in L) (vain_in_in L)
 kept_back L square joined = record {
   outs = λ p q o h. rw h (refl, refl);
   ins = λ p q i h. rw h (refl, refl);

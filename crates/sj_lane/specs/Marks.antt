@@ -4,13 +4,13 @@ use Rattle.sj_lang.specs.Place.{Place, done}
 use Rattle.sj_rules.specs.Record as rules
 use Rattle.sj_rules.specs.Record.{EndAt, BodyAt}
 use Rattle.sj_rules.specs.Frames.{FrameAt}
-use Rattle.sj_lane.specs.declared.marks.EndMark.{EndMark}
-use Rattle.sj_lane.specs.declared.marks.BodyMark.{BodyMark}
-use Rattle.sj_lane.specs.declared.marks.BodyMark.TheVariants as marks
-use Rattle.sj_lane.specs.declared.marks.Mark.{Mark}
+use Rattle.sj_lane.specs.declared.marks.EndFields.{EndFields}
+use Rattle.sj_lane.specs.declared.marks.BodyFields.{BodyFields}
+use Rattle.sj_lane.specs.declared.marks.BodyFields.TheVariants as marks
+use Rattle.sj_lane.specs.declared.marks.FrameFields.{FrameFields}
 
 -- an end, with the empty place
-abbrev pub end_marked : EndMark → EndAt Place
+abbrev pub end_marked : EndFields → EndAt Place
 end_marked e = record {
   id = e.id;
   place = done;
@@ -24,7 +24,7 @@ end_marked e = record {
 }
 
 -- a body
-abbrev pub body_marked : BodyMark → BodyAt Place
+abbrev pub body_marked : BodyFields → BodyAt Place
 body_marked (marks.Carry to conn number taken msg) = rules.Carry to conn number taken msg
 body_marked (marks.Fin to conn number) = rules.Fin to conn number
 body_marked (marks.Claim of) = rules.Claim of
@@ -34,9 +34,9 @@ body_marked (marks.Give end resend) = rules.Give (end_marked end) resend
 body_marked (marks.Open sess) = rules.Open sess
 
 -- a frame
-abbrev pub mark_at : Mark → FrameAt Place
+abbrev pub mark_at : FrameFields → FrameAt Place
 mark_at m = record { clock = m.clock; body = body_marked m.body }
 
 -- all of them, in order
-abbrev pub marks_at : List Mark → List (FrameAt Place)
+abbrev pub marks_at : List FrameFields → List (FrameAt Place)
 marks_at ms = map mark_at ms

@@ -3,7 +3,7 @@
 use Rattle.std.specs.Prelude.{◌≡◌, List, ◌++◌, Option, Some}
 use Rattle.sj_lang.specs.Place.{Place}
 use Rattle.sj_rules.specs.Frames.{FrameAt}
-use Rattle.sj_end.specs.declared.wire.Frame.{Frame}
+use Rattle.sj_end.specs.declared.frames.Frame.{Frame}
 use Rattle.sj_lane.specs.declared.mem.MemOut.{MemOut}
 use Rattle.sj_lane.specs.declared.mem.MemIn.{MemIn}
 use Rattle.sj_lane.specs.Marks.{marks_at}

@@ -1,6 +1,6 @@
 -- What of lanes in memory stays while frames are carried, and where the frames are that wait.
 use Rattle.std.specs.Prelude.{◌≡◌, ◌⊎◌, ℕ, ◌<◌, List, [], ◌++◌, length, Option, Some, None}
-use Rattle.sj_end.specs.declared.wire.Frame.{Frame}
+use Rattle.sj_end.specs.declared.frames.Frame.{Frame}
 use Rattle.sj_lane.specs.declared.lane.Lanes.{Lanes}
 use Rattle.sj_lane.specs.declared.mem.MemOut.{MemOut}
 use Rattle.sj_lane.specs.declared.mem.MemIn.{MemIn}

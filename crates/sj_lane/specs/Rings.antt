@@ -5,7 +5,7 @@ use mathlib.Core.List.{IsPrefix}
 use Rattle.rtrb.specs.Ring.{sent, received, IsPair, SameProducer, SameConsumer}
 use Rattle.sj_lang.specs.Place.{Place}
 use Rattle.sj_rules.specs.Frames.{FrameAt}
-use Rattle.sj_end.specs.declared.wire.Frame.{Frame}
+use Rattle.sj_end.specs.declared.frames.Frame.{Frame}
 use Rattle.sj_lane.specs.Told.{told_list}
 use Rattle.sj_lane.specs.declared.lane.Lanes.{Lanes}
 use Rattle.sj_lane.specs.Square.{out_at}

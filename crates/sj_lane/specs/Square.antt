@@ -3,7 +3,7 @@ use Rattle.std.specs.Prelude.{◌≡◌, ◌⊎◌, ℕ, ◌<◌, ◌≤◌, Lis
 use mathlib.Core.List.{IsPrefix}
 use Rattle.sj_lang.specs.Place.{Place}
 use Rattle.sj_rules.specs.Frames.{FrameAt}
-use Rattle.sj_end.specs.declared.wire.Frame.{Frame}
+use Rattle.sj_end.specs.declared.frames.Frame.{Frame}
 use Rattle.sj_lane.specs.Told.{told_list}
 use Rattle.sj_lane.specs.declared.lane.Lanes.{Lanes}
 
@@ -60,7 +60,7 @@ module _ {O I : Type 0} (pushed : O → Option (List (FrameAt Place))) (popped :
 
   -- the lists and counts that links keep are those of these lanes, and what was popped is a prefix
   -- of what was pushed
-  pub record Kept (lanes : List (Lanes O I)) (sent got : ℕ → ℕ → List (FrameAt Place)) (vain_out vain_in : ℕ → ℕ → ℕ) : Type 0 where
+  pub record KeepsLists (lanes : List (Lanes O I)) (sent got : ℕ → ℕ → List (FrameAt Place)) (vain_out vain_in : ℕ → ℕ → ℕ) : Type 0 where
     pub outs : (p q : ℕ) (o : O) → out_at lanes p q ≡ Some o → (pushed o ≡ Some (sent p q)) × (vain_o o ≡ vain_out p q)
     pub ins : (p q : ℕ) (i : I) → in_at lanes p q ≡ Some i → (popped i ≡ Some (got p q)) × (vain_i i ≡ vain_in p q)
     pub prefix : (p q : ℕ) → p < length lanes → q < length lanes → IsPrefix (got p q) (sent p q)

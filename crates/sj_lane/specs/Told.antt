@@ -5,8 +5,8 @@ use Rattle.sj_rules.specs.Frames.{FrameAt}
 use Rattle.sj_rules.specs.Mapped.{body_with, end_with, frame_with}
 use Rattle.sj_rules.specs.Record.{BodyAt, EndAt}
 pub use Rattle.sj_rules.specs.Work.{told_more}
-use Rattle.sj_end.specs.declared.wire.Frame.{Frame}
-use Rattle.sj_end.specs.declared.wire.Body.{Body}
+use Rattle.sj_end.specs.declared.frames.Frame.{Frame}
+use Rattle.sj_end.specs.declared.frames.Body.{Body}
 use Rattle.sj_end.specs.Views.{body_at, frame_at}
 use Rattle.sj_table.specs.declared.table.Spot.{Spot}
 use Rattle.sj_lane.specs.declared.lane.PushRefusal.{PushRefusal}

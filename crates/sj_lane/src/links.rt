@@ -3,18 +3,21 @@ ghost use Rattle.std.specs.Prelude.{◌≡◌, ℕ, ◌≤◌, List, Bool, true,
 ghost use Rattle.sj_lang.specs.Place.{Place};
 ghost use Rattle.sj_rules.specs.Frames.{FrameAt};
 ghost use Rattle.sj_lane.specs.Square.{AllJoined, HasFault, IsFresh, IsRest, IsSquare};
-ghost use Rattle.sj_lane.specs.Square.{Kept, NoFault, NoneFell, SameLists};
+ghost use Rattle.sj_lane.specs.Square.{KeepsLists, NoFault, NoneFell, SameLists};
 ghost use Rattle.sj_lane.specs.Told.{Rose};
 
 use crate::lane::{InLane, Lanes, OutLane};
 use sj_base::NoMemory;
 use sj_end::Frame;
 use std::alloc::Global;
+use thiserror::Error;
 
 /// Why there are no lanes.
-#[derive(Clone, Copy, Debug, PartialEq, Eq)]
+#[derive(Clone, Copy, Debug, PartialEq, Eq, Error)]
 pub enum MakeRefusal {
+    #[error("link fault")]
     Fault,
+    #[error("no memory")]
     NoMemory,
 }
 
@@ -97,7 +100,7 @@ pub trait Links {
     fn back(&mut self, lanes: Vec<Lanes<Self::Out, Self::In>>)
         requires square { IsSquare lanes.items }
         requires joined { AllJoined joined lanes.items }
-        ensures kept { tells self.old ≡ true → Kept Self.Out.pushed Self.In.popped Self.Out.vain
+        ensures kept { tells self.old ≡ true → KeepsLists Self.Out.pushed Self.In.popped Self.Out.vain
             Self.In.vain lanes.items (sent self.new) (got self.new) (vain_out self.new)
             (vain_in self.new) }
         ensures tells { tells self.new ≡ tells self.old }

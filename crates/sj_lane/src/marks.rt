@@ -8,7 +8,7 @@ use sj_end::{Body, End, Frame};
 
 /// The fields of an end, but its place.
 #[derive(Drop)]
-pub(crate) struct EndMark {
+pub(crate) struct EndFields {
     pub(crate) id: EndId,
     pub(crate) conn: u32,
     pub(crate) peer: u16,
@@ -21,7 +21,7 @@ pub(crate) struct EndMark {
 
 /// The fields of a body.
 #[derive(Drop)]
-pub(crate) enum BodyMark {
+pub(crate) enum BodyFields {
     Carry {
         to: EndId,
         conn: u32,
@@ -48,7 +48,7 @@ pub(crate) enum BodyMark {
         conn: u32,
     },
     Give {
-        end: EndMark,
+        end: EndFields,
         resend: Option<u32>,
     },
     Open {
@@ -58,17 +58,17 @@ pub(crate) enum BodyMark {
 
 /// The fields of a frame.
 #[derive(Drop)]
-pub(crate) struct Mark {
+pub(crate) struct FrameFields {
     pub(crate) clock: u64,
-    pub(crate) body: BodyMark,
+    pub(crate) body: BodyFields,
 }
 
-fn mark_end(end: &End) -> Result<EndMark, NoMemory>
+fn mark_end(end: &End) -> Result<EndFields, NoMemory>
     ensures { IfOk result (λ m. end_marked m ≡ told_end end.now) }
 {
     let alloc = *end.cache.allocator();
     let cache: Vec<Msg> = end.cache.iter().copied().collect(alloc)?;
-    Ok(EndMark {
+    Ok(EndFields {
         id: end.id,
         conn: end.conn,
         peer: end.peer,
@@ -80,7 +80,7 @@ fn mark_end(end: &End) -> Result<EndMark, NoMemory>
     })
 }
 
-fn mark_body(body: &Body) -> Result<BodyMark, NoMemory>
+fn mark_body(body: &Body) -> Result<BodyFields, NoMemory>
     ensures { IfOk result (λ m. body_marked m ≡ told_body body.now) }
 {
     match body {
@@ -90,51 +90,51 @@ fn mark_body(body: &Body) -> Result<BodyMark, NoMemory>
             number,
             taken,
             msg,
-        } => Ok(BodyMark::Carry {
+        } => Ok(BodyFields::Carry {
             to: *to,
             conn: *conn,
             number: *number,
             taken: *taken,
             msg: *msg,
         }),
-        Body::Fin { to, conn, number } => Ok(BodyMark::Fin {
+        Body::Fin { to, conn, number } => Ok(BodyFields::Fin {
             to: *to,
             conn: *conn,
             number: *number,
         }),
-        Body::Claim { of } => Ok(BodyMark::Claim { of: *of }),
+        Body::Claim { of } => Ok(BodyFields::Claim { of: *of }),
         Body::Signal {
             to,
             conn,
             party,
             taken,
-        } => Ok(BodyMark::Signal {
+        } => Ok(BodyFields::Signal {
             to: *to,
             conn: *conn,
             party: *party,
             taken: *taken,
         }),
-        Body::Ack { of, conn } => Ok(BodyMark::Ack {
+        Body::Ack { of, conn } => Ok(BodyFields::Ack {
             of: *of,
             conn: *conn,
         }),
         Body::Give { end, resend } => {
             let end = mark_end(end)?;
-            Ok(BodyMark::Give {
+            Ok(BodyFields::Give {
                 end,
                 resend: *resend,
             })
         }
-        Body::Open { sess } => Ok(BodyMark::Open { sess: *sess }),
+        Body::Open { sess } => Ok(BodyFields::Open { sess: *sess }),
     }
 }
 
 /// The fields of the frame, which stays with its owner.
-pub(crate) fn mark_of(frame: &Frame) -> Result<Mark, NoMemory>
+pub(crate) fn mark_of(frame: &Frame) -> Result<FrameFields, NoMemory>
     ensures { IfOk result (λ m. mark_at m ≡ told_frame frame.now) }
 {
     let body = mark_body(&frame.body)?;
-    Ok(Mark {
+    Ok(FrameFields {
         clock: frame.clock,
         body,
     })

@@ -2,7 +2,7 @@
 ghost use Rattle.sj_lane.specs.Mem.{out_waits, in_waits};
 
 use crate::lane::{InLane, OutLane, PopRefusal, PushRefusal};
-use crate::marks::{Mark, mark_of};
+use crate::marks::{FrameFields, mark_of};
 use sj_end::Frame;
 use std::collections::VecDeque;
 
@@ -10,7 +10,7 @@ use std::collections::VecDeque;
 /// yet.
 #[derive(Drop)]
 pub struct MemOut {
-    pub(crate) pushed: Vec<Mark>,
+    pub(crate) pushed: Vec<FrameFields>,
     pub(crate) waiting: VecDeque<Frame>,
     pub(crate) vain: u64,
 }
@@ -19,7 +19,7 @@ pub struct MemOut {
 /// it.
 #[derive(Drop)]
 pub struct MemIn {
-    pub(crate) popped: Vec<Mark>,
+    pub(crate) popped: Vec<FrameFields>,
     pub(crate) waiting: VecDeque<Frame>,
     pub(crate) vain: u64,
 }

@@ -23,7 +23,7 @@ impl MemLinks {
 impl Links for MemLinks {
     ghost use Rattle.std.specs.Prelude.{◌≡◌, ◌≤◌, ℕ, true, Err, None, Ok, IfOk, IfSome};
     ghost use Rattle.std.specs.Prelude.{OnErr, OnOk, vec_len};
-    ghost use Rattle.sj_lane.specs.Square.{AllJoined, HasFault, IsFresh, IsRest, IsSquare, Kept};
+    ghost use Rattle.sj_lane.specs.Square.{AllJoined, HasFault, IsFresh, IsRest, IsSquare, KeepsLists};
     ghost use Rattle.sj_lane.specs.Square.{NoFault, NoneFell, SameLists};
     ghost use Rattle.sj_lane.specs.Told.{Rose};
     ghost use Rattle.sj_lane.specs.Mem.{IsCarried};
@@ -132,7 +132,7 @@ impl Links for MemLinks {
     fn back(&mut self, lanes: Vec<Lanes<MemOut, MemIn>>)
         requires square { IsSquare lanes.items }
         requires joined { AllJoined IsCarried lanes.items }
-        ensures kept { true ≡ true → Kept ⟦<MemOut as OutLane>⟧.pushed ⟦<MemIn as InLane>⟧.popped
+        ensures kept { true ≡ true → KeepsLists ⟦<MemOut as OutLane>⟧.pushed ⟦<MemIn as InLane>⟧.popped
             ⟦<MemOut as OutLane>⟧.vain ⟦<MemIn as InLane>⟧.vain lanes.items
             (sent_in (kept_list self.new.kept)) (got_in (kept_list self.new.kept))
             (vain_out_in (kept_list self.new.kept)) (vain_in_in (kept_list self.new.kept)) }

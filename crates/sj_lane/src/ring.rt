@@ -22,7 +22,7 @@ impl RingLinks {
 
 impl Links for RingLinks {
     ghost use Rattle.std.specs.Prelude.{◌≡◌, ◌≤◌, ℕ, Err, None, Some, IfOk, IfSome, true, vec_len};
-    ghost use Rattle.sj_lane.specs.Square.{AllJoined, HasFault, IsFresh, IsRest, IsSquare, Kept};
+    ghost use Rattle.sj_lane.specs.Square.{AllJoined, HasFault, IsFresh, IsRest, IsSquare, KeepsLists};
     ghost use Rattle.sj_lane.specs.Square.{NoFault, NoneFell, SameLists, in_at, out_at};
     ghost use Rattle.sj_lane.specs.Told.{Rose};
     ghost use Rattle.std.proofs.Common.{rules};
@@ -139,7 +139,7 @@ impl Links for RingLinks {
     fn back(&mut self, lanes: Vec<Lanes<RingOut, RingIn>>)
         requires square { IsSquare lanes.items }
         requires joined { AllJoined Joined lanes.items }
-        ensures kept { true ≡ true → Kept ⟦<RingOut as OutLane>⟧.pushed ⟦<RingIn as InLane>⟧.popped
+        ensures kept { true ≡ true → KeepsLists ⟦<RingOut as OutLane>⟧.pushed ⟦<RingIn as InLane>⟧.popped
             ⟦<RingOut as OutLane>⟧.vain ⟦<RingIn as InLane>⟧.vain lanes.items
             (sent_in (kept_list self.new.kept)) (got_in (kept_list self.new.kept))
             (vain_out_in (kept_list self.new.kept)) (vain_in_in (kept_list self.new.kept)) }

@@ -2,7 +2,7 @@
 use Rattle.std.proofs.Common.{◌≡◌, ℕ, ◌-◌, List, [], ◌∷◌, ◌++◌, length, take, Option, Some, None, IfSome, ap, sym, ◌∙◌, append_assoc, arith}
 use Rattle.std.proofs.lemmas.List.{length-append}
 use Rattle.sj_lang.specs.FileAt.{FileAt}
-use Rattle.sj_grammar.specs.Reading.{Reading, passed, line_at}
+use Rattle.sj_grammar.specs.Reading.{Reading, passed, line_number}
 use Rattle.sj_grammar.specs.Positions.{At, past, Takes, Piece, BeginsOnLines, start}
 use Rattle.sj_grammar.specs.Files.{IsFile}
 use Rattle.sj_legible_laws.proofs.NewlineLemmas.{ended, ended_ahead, same_front, same_next}
@@ -37,8 +37,8 @@ unfolding takes_ended
 begins_ended [] a b h = ap ended_at h
 begins_ended (p ∷ ps) a b h =
     let t = h.1.taken in
-    let same : line_at (passed a.text (p.spelled ++ t.rest)) ≡ line_at (passed (ended_reading a.text) (p.spelled ++ ended t.rest)) =
-    ap line_at (sym (same_passed a.text (p.spelled ++ t.rest)) ∙ ap (passed (ended_reading a.text)) (append_assoc p.spelled t.rest (10 ∷ []))) in
+    let same : line_number (passed a.text (p.spelled ++ t.rest)) ≡ line_number (passed (ended_reading a.text) (p.spelled ++ ended t.rest)) =
+    ap line_number (sym (same_passed a.text (p.spelled ++ t.rest)) ∙ ap (passed (ended_reading a.text)) (append_assoc p.spelled t.rest (10 ∷ []))) in
     (ended_at h.0, record { taken = takes_ended a h.0 p.spelled t; line = line_ended p.line _ _ same h.1.line }, begins_ended ps h.0 b h.2)
 
 pub file_ended : (text : List ℕ) (file : FileAt) → IsFile text file → IsFile (ended text) file

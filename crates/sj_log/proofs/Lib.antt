@@ -1,6 +1,5 @@
 pub mod NameLemmas
 pub mod PartLemmas
-pub mod WordLemmas
 pub mod LogLemmas
 pub mod EventLemmas
 pub mod NumberBack

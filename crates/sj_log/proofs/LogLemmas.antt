@@ -12,7 +12,7 @@ use Rattle.sj_log.specs.Fields.{made}
 use Rattle.sj_log.specs.LogText.{lines_read, line_read, before}
 use Rattle.sj_log.specs.declared.refusal.LogRule.{LogRule}
 use Rattle.sj_log.specs.declared.refusal.LogRule.TheVariants.{L4}
-use Rattle.sj_log.proofs.WordLemmas.{one_part, some_part}
+use Rattle.sj_fields.proofs.WordLemmas.{one_part, some_part}
 
 -- what was read already, and what is read of the rest
 abbrev pub behind : List LineAt → Result (List LineAt) (LogRule × ℕ) → Result (List LineAt) (LogRule × ℕ)

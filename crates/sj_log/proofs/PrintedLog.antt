@@ -12,7 +12,7 @@ use Rattle.sj_rules.specs.Log.{LineAt}
 use Rattle.sj_print.specs.LogLine.{log_line, log_text, origin_words, note_words}
 use Rattle.sj_log.specs.LogText.{lines_read, before, SpellsLog}
 use Rattle.sj_log.specs.Legible.{IsLegible, AreLegible}
-use Rattle.sj_log.proofs.WordLemmas.{some_part}
+use Rattle.sj_fields.proofs.WordLemmas.{some_part}
 use Rattle.sj_log.proofs.LogLemmas.{read_first}
 use Rattle.sj_log.proofs.PartedWords.{line_is, line_first}
 use Rattle.sj_log.proofs.PrintedEvents.{whole_words, line_back}

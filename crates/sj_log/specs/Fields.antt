@@ -1,9 +1,10 @@
 -- The words of a line of a log, and numbers and ends among them: what a word stands for, or which rule it breaks.
 use Rattle.std.specs.Prelude.{ℕ, ◌+◌, ◌-◌, ◌^◌, Bool, true, false, not, ◌==◌, ◌&&◌, ◌||◌, nat_lt, nat_le, if◌then◌else◌, ℤ, pos, negsuc, List, [], ◌∷◌, length, drop, codes, Option, Some, None, Result, Ok, Err, ⊤}
-use Rattle.std.specs.List.{list_all, slice_split, join_with_byte, before_first, after_first}
+use Rattle.std.specs.List.{list_all, before_first, after_first}
 use Rattle.std.specs.Str.{bytes_eq}
 use Rattle.std.specs.Str.Parse.{digits_value}
 use Rattle.sj_base.specs.declared.EndId.{EndId}
+pub use Rattle.sj_fields.specs.Fields.{words_in, words_left, words_text, word, rest}
 use Rattle.sj_grammar.specs.Bytes.{is_digit, begins_with}
 use Rattle.sj_grammar.specs.Lexis.{has_leading_zero}
 use Rattle.sj_rules.specs.Limits.{clock_end}
@@ -31,29 +32,6 @@ both (Err r) (Err s) = Err (first_of r s)
 abbrev pub made : {A B : Type 0} → (A → B) → Result A LogRule → Result B LogRule
 made f (Ok a) = Ok (f a)
 made f (Err r) = Err r
-
--- the words of a line, split at each single space
-abbrev pub words_in : List ℕ → List (List ℕ)
-words_in line = slice_split (λ b. b == 32) line
-
--- the bytes of words, with a single space between each two
-abbrev pub words_text : List (List ℕ) → List ℕ
-words_text ws = join_with_byte 32 ws
-
--- the words of the bytes that are left of a line
-abbrev pub words_left : Option (List ℕ) → List (List ℕ)
-words_left None = []
-words_left (Some bytes) = words_in bytes
-
--- the next word; where none is left it is empty, which is no form of a field
-abbrev pub word : List (List ℕ) → List ℕ
-word [] = []
-word (w ∷ ws) = w
-
--- the words after it
-abbrev pub rest : List (List ℕ) → List (List ℕ)
-rest [] = []
-rest (w ∷ ws) = ws
 
 -- the next word is read by the one, and the words after it by the other
 abbrev pub next : {A B : Type 0} → (List ℕ → Result A LogRule) → (List (List ℕ) → Result B LogRule) → List (List ℕ) → Result (A × B) LogRule

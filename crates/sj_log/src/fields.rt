@@ -4,8 +4,9 @@ ghost use Rattle.sj_grammar.specs.Lexis.{most as largest};
 ghost use Rattle.sj_log.specs.Fields.{made, number_read, count_read, clock_read, int_read, end_read, resend_read, bool_read, last_int};
 
 use crate::refusal::LogRule;
-use crate::words::{first_at, together};
+use crate::reported::together;
 use sj_base::EndId;
+use sj_fields::first_at;
 use sj_grammar::{are_digits, is};
 use sj_proto::{digits_number, goes_on_after_zero};
 

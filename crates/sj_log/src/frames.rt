@@ -9,8 +9,9 @@ use crate::fields::{count, end, resend};
 use crate::names::party;
 use crate::notes::{knows_openings, message};
 use crate::refusal::LogRule;
-use crate::words::{Fields, together};
+use crate::reported::{ended, together};
 use sj_end::Note;
+use sj_fields::Fields;
 use sj_grammar::is;
 use sj_lang::File;
 
@@ -43,7 +44,7 @@ fn fin(fields: &mut Fields) -> Result<Note, LogRule>
     let to = end(fields.next());
     let conn = count(fields.next());
     let number = count(fields.next());
-    let (to, (conn, (number, ()))) = together(to, together(conn, together(number, fields.end())))?;
+    let (to, (conn, (number, ()))) = together(to, together(conn, together(number, ended(fields))))?;
     Ok(Note::Fin { to, conn, number })
 }
 
@@ -55,7 +56,7 @@ fn signal(file: &File, fields: &mut Fields) -> Result<Note, LogRule>
     let conn = count(fields.next());
     let party = party(file, fields.next());
     let taken = count(fields.next());
-    let said = together(taken, fields.end());
+    let said = together(taken, ended(fields));
     let (to, (conn, (party, (taken, ())))) = together(to, together(conn, together(party, said)))?;
     Ok(Note::Signal {
         to,
@@ -76,7 +77,7 @@ fn counts(fields: &mut Fields) -> Result<Counts, LogRule>
     let taken = count(fields.next());
     let base = count(fields.next());
     let resend = resend(fields.next());
-    let last = together(base, together(resend, fields.end()));
+    let last = together(base, together(resend, ended(fields)));
     together(sent, together(taken, last))
 }
 
@@ -113,7 +114,7 @@ fn opened(version: u8, word: &[u8], fields: &mut Fields) -> Result<Note, LogRule
     }
     if is(word, b"open") {
         let sess = count(fields.next());
-        let (sess, ()) = together(sess, fields.end())?;
+        let (sess, ()) = together(sess, ended(fields))?;
         Ok(Note::Open { sess })
     } else {
         Err(LogRule::L1)
@@ -132,14 +133,14 @@ pub(crate) fn frame(version: u8, file: &File, fields: &mut Fields) -> Result<Not
         fin(fields)
     } else if is(word, b"claim") {
         let of = end(fields.next());
-        let (of, ()) = together(of, fields.end())?;
+        let (of, ()) = together(of, ended(fields))?;
         Ok(Note::Claim { of })
     } else if is(word, b"signal") {
         signal(file, fields)
     } else if is(word, b"ack") {
         let of = end(fields.next());
         let conn = count(fields.next());
-        let (of, (conn, ())) = together(of, together(conn, fields.end()))?;
+        let (of, (conn, ())) = together(of, together(conn, ended(fields)))?;
         Ok(Note::Ack { of, conn })
     } else if is(word, b"give") {
         give(file, fields)

@@ -9,9 +9,9 @@ mod names;
 mod notes;
 mod parts;
 mod refusal;
-mod words;
+mod reported;
 
 pub use laws::{printed_lines_are_read, sources_are_parted_in_one_way};
 pub use lines::read_log;
-pub use parts::{line_at, parted};
+pub use parts::{find_line, parted};
 pub use refusal::LogRefusal;

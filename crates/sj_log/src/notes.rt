@@ -9,9 +9,10 @@ ghost use Rattle.sj_log.specs.Notes.{sess_read, message_read, offer_read, openin
 use crate::fields::{boolean, count, end, int};
 use crate::names::{label, party, text};
 use crate::refusal::LogRule;
-use crate::words::{Fields, together};
+use crate::reported::{ended, together};
 use sj_base::Msg;
 use sj_end::Note;
+use sj_fields::Fields;
 use sj_grammar::is;
 use sj_lang::File;
 
@@ -22,7 +23,7 @@ fn sess(file: &File, fields: &mut Fields) -> Result<Msg, LogRule>
 {
     let end = end(fields.next());
     let keeper = party(file, fields.next());
-    let (end, (keeper, ())) = together(end, together(keeper, fields.end()))?;
+    let (end, (keeper, ())) = together(end, together(keeper, ended(fields)))?;
     Ok(Msg::Sess {
         sess: end.sess,
         side: end.side,
@@ -38,24 +39,24 @@ pub(crate) fn message(file: &File, fields: &mut Fields) -> Result<Msg, LogRule>
     let word = fields.next();
     if is(word, b"int") {
         let n = int(fields.next());
-        let (n, ()) = together(n, fields.end())?;
+        let (n, ()) = together(n, ended(fields))?;
         Ok(Msg::Int(n))
     } else if is(word, b"boolean") {
         let b = boolean(fields.next());
-        let (b, ()) = together(b, fields.end())?;
+        let (b, ()) = together(b, ended(fields))?;
         Ok(Msg::Bool(b))
     } else if is(word, b"String") {
         let n = text(file, fields.all())?;
         Ok(Msg::Text(n))
     } else if is(word, b"label") {
         let n = label(file, fields.next());
-        let (n, ()) = together(n, fields.end())?;
+        let (n, ()) = together(n, ended(fields))?;
         Ok(Msg::Label(n))
     } else if is(word, b"more") {
-        fields.end()?;
+        ended(fields)?;
         Ok(Msg::More(true))
     } else if is(word, b"stop") {
-        fields.end()?;
+        ended(fields)?;
         Ok(Msg::More(false))
     } else if is(word, b"session") {
         sess(file, fields)
@@ -71,7 +72,7 @@ fn offer(file: &File, fields: &mut Fields) -> Result<(u32, (u16, ())), LogRule>
 {
     let sess = count(fields.next());
     let party = party(file, fields.next());
-    together(sess, together(party, fields.end()))
+    together(sess, together(party, ended(fields)))
 }
 
 /// Whether a log of that version speaks of sessions that are opened at run time.
@@ -111,7 +112,7 @@ pub(crate) fn act(
     ensures { made note_seen result ≡ act_read version (file_of file.now) word.now fields.old }
 {
     if is(word, b"local") {
-        fields.end()?;
+        ended(fields)?;
         Ok(Note::Local)
     } else if is(word, b"send") {
         let end = end(fields.next());
@@ -123,7 +124,7 @@ pub(crate) fn act(
         Ok(Note::Took { end, msg })
     } else if is(word, b"close") {
         let end = end(fields.next());
-        let (end, ()) = together(end, fields.end())?;
+        let (end, ()) = together(end, ended(fields))?;
         Ok(Note::Shut { end })
     } else {
         opening(version, file, word, fields)

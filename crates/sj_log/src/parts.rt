@@ -12,8 +12,8 @@ pub fn parted(source: &[u8]) -> Option<(&[u8], u8, &[u8])>
     ensures some { IfSome result (λ p. IsParted source.now p.0.now p.1 p.2.now) }
     ensures none { result ≡ None → HasNoPart source.now }
 {
-    let first = line_at(source, b"%%log\n", b"\n%%log\n");
-    let second = line_at(source, b"%%log2\n", b"\n%%log2\n");
+    let first = find_line(source, b"%%log\n", b"\n%%log\n");
+    let second = find_line(source, b"%%log2\n", b"\n%%log2\n");
     match (first, second) {
         (None, None) => None,
         (Some(at), None) => Some((&source[..at], 1, &source[at + 6..])),
@@ -30,7 +30,7 @@ pub fn parted(source: &[u8]) -> Option<(&[u8], u8, &[u8])>
 
 /// After how many bytes that line stands first; None where no line is that one. The line is given
 /// with its newline, alone and after the newline of another.
-pub fn line_at(source: &[u8], mark: &[u8], inner: &[u8]) -> Option<usize>
+pub fn find_line(source: &[u8], mark: &[u8], inner: &[u8]) -> Option<usize>
     requires { inner.now ≡ codes "\n" ++ mark.now }
     ensures { IsFirst mark.now source.now result }
 {

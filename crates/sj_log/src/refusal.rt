@@ -4,6 +4,7 @@ ghost use Rattle.sj_log.specs.Rules.{rule_number};
 
 use sj_base::NoMemory;
 use std::alloc::AllocFailed;
+use thiserror::Error;
 
 /// What a line of a log breaks: of its broken rules the first of L1, L3 and L2.
 #[derive(Clone, Copy, Debug, PartialEq, Eq)]
@@ -31,12 +32,14 @@ pub(crate) fn number_of(rule: LogRule) -> u8
 }
 
 /// Why bytes aren't read as a log.
-#[derive(Clone, Copy, Debug, PartialEq, Eq)]
+#[derive(Clone, Copy, Debug, PartialEq, Eq, Error)]
 pub enum LogRefusal {
     /// The first line outside the grammar, by its number from 1 on, and the rule that it breaks.
     /// The rule is 1 for no form of a line, 2 for an unknown name, 3 for a wrong number, 4 for a
     /// line without its newline.
+    #[error("L{rule} at {line}")]
     At { rule: u8, line: u32 },
+    #[error("no memory")]
     NoMemory,
 }
 

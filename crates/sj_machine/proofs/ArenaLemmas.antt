@@ -5,7 +5,7 @@ use Rattle.sj_lang.specs.Code.{Code, no_stmt, stmt_then, at, inbranch, outwhile,
 use Rattle.sj_machine.specs.declared.arena.ArmAt.{ArmAt}
 use Rattle.sj_machine.specs.declared.arena.Op.{Op}
 use Rattle.sj_machine.specs.declared.arena.Op.TheVariants.{Send, Delegate, Take, TakeEnd, Select, Branch, OutWhile, InWhile, Relay, If, Let, Close, Request, Accept}
-use Rattle.sj_machine.specs.declared.arena.Node.{Node}
+use Rattle.sj_machine.specs.declared.arena.CodeNode.{CodeNode}
 use Rattle.sj_machine.specs.Arena.{code_in, arms_in, deed_in, node_code, codes_from, codes_of, IsBelow, AreBelow, IsOpBelow, IsBackward}
 
 -- ---- below
@@ -46,20 +46,20 @@ get_or_end [] y j d h = ap (λ (t : ℕ). get_or (y ∷ []) t d) h
 get_or_end (x ∷ xs) y zero d h = absurd (omega arith)
 get_or_end (x ∷ xs) y (suc j) d h = get_or_end xs y j d (omega arith)
 
-codes_kept : (codes : List Code) (ns : List Node) (j : ℕ) (d : Code) → j < length codes → get_or (codes_from codes ns) j d ≡ get_or codes j d
+codes_kept : (codes : List Code) (ns : List CodeNode) (j : ℕ) (d : Code) → j < length codes → get_or (codes_from codes ns) j d ≡ get_or codes j d
 codes_kept codes [] j d h = refl
 codes_kept codes (n ∷ ns) j d h =
     codes_kept (codes ++ node_code codes n ∷ []) ns j d (omega (arith, length-append codes (node_code codes n ∷ []))) ∙ get_or_before codes (node_code codes n) j d h
 
-pub code_kept : (codes : List Code) (ns : List Node) (o : Option ℕ) → IsBelow (length codes) o → code_in (codes_from codes ns) o ≡ code_in codes o
+pub code_kept : (codes : List Code) (ns : List CodeNode) (o : Option ℕ) → IsBelow (length codes) o → code_in (codes_from codes ns) o ≡ code_in codes o
 code_kept codes ns None h = refl
 code_kept codes ns (Some i) h = codes_kept codes ns i no_stmt h
 
-pub arms_kept : (codes : List Code) (ns : List Node) (arms : List ArmAt) → AreBelow (length codes) arms → arms_in (codes_from codes ns) arms ≡ arms_in codes arms
+pub arms_kept : (codes : List Code) (ns : List CodeNode) (arms : List ArmAt) → AreBelow (length codes) arms → arms_in (codes_from codes ns) arms ≡ arms_in codes arms
 arms_kept codes ns [] h = refl
 arms_kept codes ns (a ∷ arms) h = λ i. branch a.label (code_kept codes ns a.body h.0 i) (arms_kept codes ns arms h.1 i)
 
-pub deed_kept : (codes : List Code) (ns : List Node) (op : Op) → IsOpBelow (length codes) op → deed_in (codes_from codes ns) op ≡ deed_in codes op
+pub deed_kept : (codes : List Code) (ns : List CodeNode) (op : Op) → IsOpBelow (length codes) op → deed_in (codes_from codes ns) op ≡ deed_in codes op
 deed_kept codes ns (Send x e) h = refl
 deed_kept codes ns (Delegate x y) h = refl
 deed_kept codes ns (Take x n k) h = refl
@@ -75,12 +75,12 @@ deed_kept codes ns (Close x) h = refl
 deed_kept codes ns (Request x p b) h = refl
 deed_kept codes ns (Accept x p b) h = refl
 
-node_kept : (codes : List Code) (ns : List Node) (n : Node) → IsBelow (length codes) n.next → IsOpBelow (length codes) n.op → node_code (codes_from codes ns) n ≡ node_code codes n
+node_kept : (codes : List Code) (ns : List CodeNode) (n : CodeNode) → IsBelow (length codes) n.next → IsOpBelow (length codes) n.op → node_code (codes_from codes ns) n ≡ node_code codes n
 node_kept codes ns n a b = λ i. stmt_then (at n.line (deed_kept codes ns n.op b i)) (code_kept codes ns n.next a i)
 
 -- ---- the block that begins with a node
 
-node_code_from : (codes : List Code) (ns : List Node) (j : ℕ) (n : Node) → IsBackward (length codes) ns → j < length ns → n ≡ get_or ns j n
+node_code_from : (codes : List Code) (ns : List CodeNode) (j : ℕ) (n : CodeNode) → IsBackward (length codes) ns → j < length ns → n ≡ get_or ns j n
     → get_or (codes_from codes ns) (length codes + j) no_stmt ≡ node_code (codes_from codes ns) n
 node_code_from codes [] j n h lt e = absurd (omega arith)
 node_code_from codes (m ∷ ns) zero n h lt e =
@@ -96,21 +96,21 @@ node_code_from codes (m ∷ ns) (suc j) n h lt e =
     ap (λ (t : ℕ). get_or (codes_from more ns) t no_stmt) there
     ∙ node_code_from more ns j n (subst (λ (t : ℕ). IsBackward t ns) len h.2) (omega arith) e
 
-pub node_code_of : (nodes : List Node) (i : ℕ) (n : Node) → IsBackward 0 nodes → i < length nodes → n ≡ get_or nodes i n → code_in (codes_of nodes) (Some i) ≡ node_code (codes_of nodes) n
+pub node_code_of : (nodes : List CodeNode) (i : ℕ) (n : CodeNode) → IsBackward 0 nodes → i < length nodes → n ≡ get_or nodes i n → code_in (codes_of nodes) (Some i) ≡ node_code (codes_of nodes) n
 node_code_of nodes i n back lt e =
     let start : 0 + i ≡ i = omega arith in
     subst (λ (t : ℕ). get_or (codes_of nodes) t no_stmt ≡ node_code (codes_of nodes) n) start (node_code_from [] nodes i n back lt e)
 
-backward_from : (k : ℕ) (ns : List Node) (j : ℕ) (n : Node) → IsBackward k ns → j < length ns → n ≡ get_or ns j n → IsBelow (k + j) n.next × IsOpBelow (k + j) n.op
+backward_from : (k : ℕ) (ns : List CodeNode) (j : ℕ) (n : CodeNode) → IsBackward k ns → j < length ns → n ≡ get_or ns j n → IsBelow (k + j) n.next × IsOpBelow (k + j) n.op
 backward_from k [] j n h lt e = absurd (omega arith)
 backward_from k (m ∷ ns) zero n h lt e =
-    subst (λ (t : Node). IsBelow (k + 0) t.next × IsOpBelow (k + 0) t.op) (sym e) (below_more k (k + 0) m.next (omega arith) h.0, op_below_more k (k + 0) m.op (omega arith) h.1)
+    subst (λ (t : CodeNode). IsBelow (k + 0) t.next × IsOpBelow (k + 0) t.op) (sym e) (below_more k (k + 0) m.next (omega arith) h.0, op_below_more k (k + 0) m.op (omega arith) h.1)
 backward_from k (m ∷ ns) (suc j) n h lt e =
     let s : suc k + j ≡ k + suc j = omega arith in
     subst (λ (t : ℕ). IsBelow t n.next × IsOpBelow t n.op) s (backward_from (suc k) ns j n h.2 (omega arith) e)
 
 -- a node names only nodes before it
-pub backward_at : (nodes : List Node) (i : ℕ) (n : Node) → IsBackward 0 nodes → i < length nodes → n ≡ get_or nodes i n → IsBelow i n.next × IsOpBelow i n.op
+pub backward_at : (nodes : List CodeNode) (i : ℕ) (n : CodeNode) → IsBackward 0 nodes → i < length nodes → n ≡ get_or nodes i n → IsBelow i n.next × IsOpBelow i n.op
 backward_at nodes i n back lt e =
     let s : 0 + i ≡ i = omega arith in
     subst (λ (t : ℕ). IsBelow t n.next × IsOpBelow t n.op) s (backward_from 0 nodes i n back lt e)

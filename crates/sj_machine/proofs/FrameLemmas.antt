@@ -2,7 +2,7 @@
 use Rattle.std.proofs.Common.{◌≡◌, ℕ, suc, ◌+◌, ◌<◌, ◌≤◌, List, [], ◌∷◌, ◌++◌, length, get_or, Option, Some, None, refl, ap, sym, subst, ◌∙◌, arith}
 use Rattle.sj_lang.specs.Code.{Code, no_stmt, stmt_then, at}
 use Rattle.sj_semantics.specs.Program.{Thing, block}
-use Rattle.sj_machine.specs.declared.arena.Node.{Node}
+use Rattle.sj_machine.specs.declared.arena.CodeNode.{CodeNode}
 use Rattle.sj_machine.specs.declared.stack.Stage.TheVariants.{Fresh}
 use Rattle.sj_machine.specs.declared.stack.StackFrame.{StackFrame}
 use Rattle.sj_machine.specs.declared.stack.After.{After}
@@ -26,11 +26,11 @@ todo_entered codes None rest = refl
 todo_entered codes (Some i) rest = staged_fresh (code_in codes (Some i)) rest
 
 -- the statement of a frame, and what is after it
-pub todo_top : (codes : List Code) (fs : List StackFrame) (f : StackFrame) (n : Node) → code_in codes (Some f.at) ≡ node_code codes n
+pub todo_top : (codes : List Code) (fs : List StackFrame) (f : StackFrame) (n : CodeNode) → code_in codes (Some f.at) ≡ node_code codes n
     → todo_from codes (fs ++ f ∷ []) [] ≡ thing_at f.stage (deed_in codes n.op) ∷ block (code_in codes n.next) (todo_from codes fs [])
 todo_top codes fs f n e = todo_append codes fs (f ∷ []) [] ∙ ap (λ (c : Code). staged f.stage c (todo_from codes fs [])) e
 
-todo_leave : (codes : List Code) (f : StackFrame) (n : Node) (after : After) (rest : List Thing) → code_in codes (Some f.at) ≡ node_code codes n
+todo_leave : (codes : List Code) (f : StackFrame) (n : CodeNode) (after : After) (rest : List Thing) → code_in codes (Some f.at) ≡ node_code codes n
     → todo_from codes (frames_after f n.next after) rest ≡ todo_after codes (deed_in codes n.op) after (block (code_in codes n.next) rest)
 todo_leave codes f n (Past inside) rest e =
     todo_append codes (entry_frames n.next) (entry_frames inside) rest ∙ todo_entered codes inside (todo_from codes (entry_frames n.next) rest) ∙ ap (block (code_in codes inside)) (todo_entered codes n.next rest)
@@ -72,39 +72,39 @@ fits_length size k (f ∷ fs) l h = let r = fits_length size (suc k) fs (let u =
 -- ---- a step
 
 -- what is known of a frame that was taken off, and of its node
-pub record Popped (nodes : List Node) (fs : List StackFrame) (f : StackFrame) (n : Node) : Type 0 where
+pub record Popped (nodes : List CodeNode) (fs : List StackFrame) (f : StackFrame) (n : CodeNode) : Type 0 where
   pub code : code_in (codes_of nodes) (Some f.at) ≡ node_code (codes_of nodes) n
   pub below : IsBelow f.at n.next
   pub inside : IsOpBelow f.at n.op
   pub rooms : length fs + f.at < length nodes
   pub fits : Fits (length nodes) 0 fs
 
-pub frame_there : (nodes : List Node) (old fs : List StackFrame) (f : StackFrame) → old ≡ fs ++ f ∷ [] → Fits (length nodes) 0 old → length fs + f.at < length nodes
+pub frame_there : (nodes : List CodeNode) (old fs : List StackFrame) (f : StackFrame) → old ≡ fs ++ f ∷ [] → Fits (length nodes) 0 old → length fs + f.at < length nodes
 frame_there nodes old fs f e h =
     let t = fits_split (length nodes) 0 fs (f ∷ []) (subst (Fits (length nodes) 0) e h) in
     let u = t.1.0 in omega arith
 
-pub popped : (nodes : List Node) (old fs : List StackFrame) (f : StackFrame) (n : Node) → old ≡ fs ++ f ∷ [] → IsBackward 0 nodes → Fits (length nodes) 0 old → n ≡ get_or nodes f.at n → Popped nodes fs f n
+pub popped : (nodes : List CodeNode) (old fs : List StackFrame) (f : StackFrame) (n : CodeNode) → old ≡ fs ++ f ∷ [] → IsBackward 0 nodes → Fits (length nodes) 0 old → n ≡ get_or nodes f.at n → Popped nodes fs f n
 popped nodes old fs f n e back h is =
     let t = fits_split (length nodes) 0 fs (f ∷ []) (subst (Fits (length nodes) 0) e h) in
     let lt = frame_there nodes old fs f e h in
     let b = backward_at nodes f.at n back (omega arith) is in
     record { code = node_code_of nodes f.at n back (omega arith) is; below = b.0; inside = b.1; rooms = lt; fits = t.0 }
 
-pub top_is : (nodes : List Node) (old fs : List StackFrame) (f : StackFrame) (n : Node) → old ≡ fs ++ f ∷ [] → Popped nodes fs f n
+pub top_is : (nodes : List CodeNode) (old fs : List StackFrame) (f : StackFrame) (n : CodeNode) → old ≡ fs ++ f ∷ [] → Popped nodes fs f n
     → todo_from (codes_of nodes) old [] ≡ thing_at f.stage (deed_in (codes_of nodes) n.op) ∷ block (code_in (codes_of nodes) n.next) (todo_from (codes_of nodes) fs [])
 top_is nodes old fs f n e p = ap (λ (t : List StackFrame). todo_from (codes_of nodes) t []) e ∙ todo_top (codes_of nodes) fs f n p.code
 
-pub left_is : (nodes : List Node) (new fs : List StackFrame) (f : StackFrame) (n : Node) (after : After) → new ≡ fs ++ frames_after f n.next after → Popped nodes fs f n
+pub left_is : (nodes : List CodeNode) (new fs : List StackFrame) (f : StackFrame) (n : CodeNode) (after : After) → new ≡ fs ++ frames_after f n.next after → Popped nodes fs f n
     → todo_from (codes_of nodes) new [] ≡ todo_after (codes_of nodes) (deed_in (codes_of nodes) n.op) after (block (code_in (codes_of nodes) n.next) (todo_from (codes_of nodes) fs []))
 left_is nodes new fs f n after e p =
     ap (λ (t : List StackFrame). todo_from (codes_of nodes) t []) e ∙ todo_append (codes_of nodes) fs (frames_after f n.next after) [] ∙ todo_leave (codes_of nodes) f n after (todo_from (codes_of nodes) fs []) p.code
 
-pub left_fits : (nodes : List Node) (new fs : List StackFrame) (f : StackFrame) (n : Node) (after : After) → new ≡ fs ++ frames_after f n.next after → Popped nodes fs f n → LeadsBelow f.at after → Fits (length nodes) 0 new
+pub left_fits : (nodes : List CodeNode) (new fs : List StackFrame) (f : StackFrame) (n : CodeNode) (after : After) → new ≡ fs ++ frames_after f n.next after → Popped nodes fs f n → LeadsBelow f.at after → Fits (length nodes) 0 new
 left_fits nodes new fs f n after e p below =
     subst (Fits (length nodes) 0) (sym e) (fits_append (length nodes) 0 fs (frames_after f n.next after) p.fits (fits_leave (length nodes) (0 + length fs) f n.next after (let u = p.rooms in omega arith) p.below below))
 
-pub leave_room : (nodes : List Node) (fs : List StackFrame) (f : StackFrame) (n : Node) (room : ℕ) → Popped nodes fs f n → length nodes < room → length fs + 1 < room
+pub leave_room : (nodes : List CodeNode) (fs : List StackFrame) (f : StackFrame) (n : CodeNode) (room : ℕ) → Popped nodes fs f n → length nodes < room → length fs + 1 < room
 leave_room nodes fs f n room p lt = let u = p.rooms in omega arith
 
 pub fits_first : (size : ℕ) (new old : List StackFrame) (b : Option ℕ) → new ≡ old ++ entry_frames b → old ≡ [] → IsBelow size b → Fits size 0 new

@@ -1,7 +1,7 @@
 -- A step takes the innermost frame off, and leaves frames in its place.
 use Rattle.std.proofs.Common.{◌≡◌, ℕ, ◌+◌, ◌<◌, List, [], ◌∷◌, ◌++◌, length, get_or, sym, ap, ◌∙◌, subst, arith}
 use Rattle.sj_semantics.specs.Program.{Thing, block}
-use Rattle.sj_machine.specs.declared.arena.Node.{Node}
+use Rattle.sj_machine.specs.declared.arena.CodeNode.{CodeNode}
 use Rattle.sj_machine.specs.declared.stack.StackFrame.{StackFrame}
 use Rattle.sj_machine.specs.declared.stack.After.{After}
 use Rattle.sj_machine.specs.Arena.{deed_in, code_in, codes_of, IsOpBelow, IsBackward}
@@ -9,7 +9,7 @@ use Rattle.sj_machine.specs.Frames.{frames_after, thing_at, todo_from, todo_afte
 use Rattle.sj_machine.specs.Names.{BindsBelow, AllBindBelow}
 use Rattle.sj_machine.proofs.FrameLemmas.{frame_there, popped, top_is, left_is, left_fits, leave_room}
 
-module _ (nodes : List Node) (old fs : List StackFrame) (f : StackFrame) (n : Node) (e : old ≡ fs ++ f ∷ []) (back : IsBackward 0 nodes) (fits : Fits (length nodes) 0 old) (is : n ≡ get_or nodes f.at n) where
+module _ (nodes : List CodeNode) (old fs : List StackFrame) (f : StackFrame) (n : CodeNode) (e : old ≡ fs ++ f ∷ []) (back : IsBackward 0 nodes) (fits : Fits (length nodes) 0 old) (is : n ≡ get_or nodes f.at n) where
   -- what the step makes of what is to do
   pub step_todo : (new : List StackFrame) (after : After) (makes : List Thing → List Thing) → new ≡ fs ++ frames_after f n.next after
       → ((rest : List Thing) → makes (thing_at f.stage (deed_in (codes_of nodes) n.op) ∷ rest) ≡ todo_after (codes_of nodes) (deed_in (codes_of nodes) n.op) after rest)

@@ -5,7 +5,7 @@ use Rattle.sj_lang.specs.Code.{Code, DeedAt, Branches, no_stmt, stmt_then, at, s
 use Rattle.sj_machine.specs.declared.arena.ArmAt.{ArmAt}
 use Rattle.sj_machine.specs.declared.arena.Op.{Op}
 use Rattle.sj_machine.specs.declared.arena.Op.TheVariants.{Send, Delegate, Take, TakeEnd, Select, Branch, OutWhile, InWhile, Relay, If, Let, Close, Request, Accept}
-use Rattle.sj_machine.specs.declared.arena.Node.{Node}
+use Rattle.sj_machine.specs.declared.arena.CodeNode.{CodeNode}
 
 -- the block that begins with that node, where these are the blocks that begin with each node
 abbrev pub code_in : List Code → Option ℕ → Code
@@ -35,16 +35,16 @@ deed_in codes (Request x p b) = request x p b
 deed_in codes (Accept x p b) = accept x p b
 
 -- a node's statement, and the block after it
-abbrev pub node_code : List Code → Node → Code
+abbrev pub node_code : List Code → CodeNode → Code
 node_code codes n = stmt_then (at n.line (deed_in codes n.op)) (code_in codes n.next)
 
 -- the blocks that begin with each of these nodes, after those that there are
-abbrev pub codes_from : List Code → List Node → List Code
+abbrev pub codes_from : List Code → List CodeNode → List Code
 codes_from codes [] = codes
 codes_from codes (n ∷ ns) = codes_from (codes ++ node_code codes n ∷ []) ns
 
 -- the blocks that begin with each node, where each names only nodes before it
-abbrev pub codes_of : List Node → List Code
+abbrev pub codes_of : List CodeNode → List Code
 codes_of nodes = codes_from [] nodes
 
 -- ---- nodes name only nodes before them
@@ -69,12 +69,12 @@ IsOpBelow k (If e first second) = IsBelow k first × IsBelow k second
 IsOpBelow k _ = ⊤
 
 -- each of these nodes, the first of them node k, names only nodes before it
-abbrev pub IsBackward : ℕ → List Node → Type 0
+abbrev pub IsBackward : ℕ → List CodeNode → Type 0
 IsBackward k [] = ⊤
 IsBackward k (n ∷ ns) = IsBelow k n.next × IsOpBelow k n.op × IsBackward (suc k) ns
 
 -- nodes that others were appended to
-pub record Grown (old new : List Node) : Type 0 where
+pub record Grown (old new : List CodeNode) : Type 0 where
   pub back : IsBackward 0 new
-  pub more : List Node
+  pub more : List CodeNode
   pub is : new ≡ old ++ more

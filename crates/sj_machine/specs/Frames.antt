@@ -11,7 +11,7 @@ use Rattle.sj_machine.specs.declared.stack.Stage.TheVariants.{Fresh, Turns, Pass
 use Rattle.sj_machine.specs.declared.stack.StackFrame.{StackFrame}
 use Rattle.sj_machine.specs.declared.stack.After.{After}
 use Rattle.sj_machine.specs.declared.stack.After.TheVariants.{Past, Stays}
-use Rattle.sj_machine.specs.declared.arena.Node.{Node}
+use Rattle.sj_machine.specs.declared.arena.CodeNode.{CodeNode}
 use Rattle.sj_machine.specs.Arena.{code_in, codes_of, IsBelow}
 
 -- the frame of a block that is entered, and none of an empty one
@@ -41,7 +41,7 @@ todo_from codes [] rest = rest
 todo_from codes (f ∷ fs) rest = todo_from codes fs (staged f.stage (code_in codes (Some f.at)) rest)
 
 -- what a party still has to do, where its position is these frames over these nodes
-abbrev pub todo_in : List Node → List StackFrame → List Thing
+abbrev pub todo_in : List CodeNode → List StackFrame → List Thing
 todo_in nodes frames = todo_from (codes_of nodes) frames []
 
 -- what is to do after a step of the statement, where that is after it

@@ -3,7 +3,7 @@ use Rattle.std.specs.Prelude.{◌≡◌, ◌≢◌, ℕ, ◌<◌, List, [], ◌�
 use Rattle.sj_base.specs.declared.EndId.{EndId}
 use Rattle.sj_machine.specs.declared.arena.Op.{Op}
 use Rattle.sj_machine.specs.declared.arena.Op.TheVariants.{Take, TakeEnd, Let, Request, Accept}
-use Rattle.sj_machine.specs.declared.arena.Node.{Node}
+use Rattle.sj_machine.specs.declared.arena.CodeNode.{CodeNode}
 
 -- the name that the operation binds is below that number
 abbrev pub BindsBelow : ℕ → Op → Type 0
@@ -15,8 +15,8 @@ BindsBelow size (Accept x p b) = x < size
 BindsBelow size _ = ⊤
 
 -- and so it is in each node
-abbrev pub AllBindBelow : ℕ → List Node → Type 0
-AllBindBelow size nodes = (i : ℕ) (n : Node) → i < length nodes → n ≡ get_or nodes i n → BindsBelow size n.op
+abbrev pub AllBindBelow : ℕ → List CodeNode → Type 0
+AllBindBelow size nodes = (i : ℕ) (n : CodeNode) → i < length nodes → n ≡ get_or nodes i n → BindsBelow size n.op
 
 -- no end has that name
 abbrev pub Lacks : ℕ → List (ℕ × EndId) → Type 0

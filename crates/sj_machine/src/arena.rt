@@ -78,7 +78,7 @@ pub struct ArmAt {
 
 /// A statement, its line, and the block of those after it.
 #[derive(Drop)]
-pub struct Node {
+pub struct CodeNode {
     pub line: u32,
     pub op: Op,
     pub next: Option<usize>,

@@ -4,7 +4,7 @@ ghost use Rattle.sj_lang.specs.Code.{at, stmt_then};
 ghost use Rattle.sj_lang.specs.CodeView.{arm_of, branches_of, code_of, deed_of};
 ghost use Rattle.sj_machine.specs.Arena.{AreBelow, Grown, IsBackward, IsBelow, IsOpBelow, deed_in, arms_in, code_in, codes_of};
 
-use crate::arena::{ArmAt, Node, Op};
+use crate::arena::{ArmAt, CodeNode, Op};
 use sj_base::NoMemory;
 use sj_lang::{Deed, Stmt, StmtArm, copied_expr};
 use std::alloc::Global;
@@ -14,7 +14,7 @@ use std::alloc::Global;
 #[cycle(build)]
 pub fn add_block(
     alloc: Global,
-    nodes: &mut Vec<Node>,
+    nodes: &mut Vec<CodeNode>,
     stmts: &[Stmt],
 ) -> Result<Option<usize>, NoMemory>
     requires { IsBackward 0 nodes.old.items }
@@ -35,7 +35,7 @@ pub fn add_block(
 
 /// Puts a node at the arena's end.
 fn add_node(
-    nodes: &mut Vec<Node>,
+    nodes: &mut Vec<CodeNode>,
     line: u32,
     op: Op,
     next: Option<usize>,
@@ -50,12 +50,12 @@ fn add_node(
     ensures grown { IfOk result (λ _. Grown nodes.old.items nodes.new.items) }
 {
     let here = nodes.len();
-    nodes.push(Node { line, op, next })?;
+    nodes.push(CodeNode { line, op, next })?;
     Ok(here)
 }
 
 #[cycle(build)]
-fn add_op(alloc: Global, nodes: &mut Vec<Node>, deed: &Deed) -> Result<Op, NoMemory>
+fn add_op(alloc: Global, nodes: &mut Vec<CodeNode>, deed: &Deed) -> Result<Op, NoMemory>
     requires { IsBackward 0 nodes.old.items }
     ensures deed { IfOk result (λ op. deed_in (codes_of nodes.new.items) op ≡ deed_of deed.now) }
     ensures below { IfOk result (λ op. IsOpBelow (length nodes.new.items) op) }
@@ -146,7 +146,7 @@ fn add_op(alloc: Global, nodes: &mut Vec<Node>, deed: &Deed) -> Result<Op, NoMem
 }
 
 #[cycle(build)]
-fn add_arms(alloc: Global, nodes: &mut Vec<Node>, arms: &[StmtArm]) -> Result<Vec<ArmAt>, NoMemory>
+fn add_arms(alloc: Global, nodes: &mut Vec<CodeNode>, arms: &[StmtArm]) -> Result<Vec<ArmAt>, NoMemory>
     requires { IsBackward 0 nodes.old.items }
     ensures arms { IfOk result (λ out.
         arms_in (codes_of nodes.new.items) out.items ≡ branches_of (map arm_of arms.now)) }

@@ -17,7 +17,7 @@ mod values;
 pub use limits::{FIRST_OPENED, MAX_HOPS, MAX_REQUESTS, MAX_STEPS, opened_number};
 pub use machine::Machine;
 pub use sj_semantics::{Awaits, Want};
-pub use starts::party_of_name;
+pub use starts::{connected_ends, party_of_name};
 
 #[cfg(test)]
 mod tests;

@@ -12,7 +12,7 @@ ghost use Rattle.sj_semantics.specs.Steps.{closed_of, local_of, name_opened, ope
 ghost use Rattle.sj_semantics.specs.Wants.{want_of};
 ghost use Rattle.sj_semantics.specs.Fitting.{fits};
 
-use crate::arena::Node;
+use crate::arena::CodeNode;
 use crate::bindings::name_at;
 use crate::builders::add_block;
 use crate::needs::{fits_at, want_at};
@@ -28,7 +28,7 @@ use std::marker::Model;
 /// A party's program, where it is in it, and what it knows.
 #[derive(Drop)]
 pub struct Machine {
-    nodes: Vec<Node>,
+    nodes: Vec<CodeNode>,
     stack: Stack,
     vars: Vec<Option<Value>>,
     ends: Vec<(u16, EndId)>,
@@ -40,13 +40,13 @@ impl Model for Machine {
     ghost use Rattle.std.specs.Prelude.{ℕ, List, Option, length, vec_capacity};
     ghost use Rattle.sj_base.specs.declared.EndId.{EndId};
     ghost use Rattle.sj_semantics.specs.declared.Value.{Value as Known};
-    ghost use Rattle.sj_machine.specs.declared.arena.Node.{Node};
+    ghost use Rattle.sj_machine.specs.declared.arena.CodeNode.{CodeNode};
     ghost use Rattle.sj_machine.specs.declared.stack.StackFrame.{StackFrame};
     ghost use Rattle.sj_machine.specs.Sound.{IsSound};
     ghost use Rattle.sj_lang.specs.contracts.party.Expr as e;
     ghost use Rattle.std.specs.Coded.{codes};
 
-    ghost Value = { List Node × (List StackFrame × ℕ) × List (Option Known) × List (ℕ × EndId) × ℕ
+    ghost Value = { List CodeNode × (List StackFrame × ℕ) × List (Option Known) × List (ℕ × EndId) × ℕ
         × List ℕ };
 
     ghost coded = { Prim.hlevel (codes, e.the_row.coded) };

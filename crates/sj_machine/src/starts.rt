@@ -7,7 +7,7 @@ ghost use Rattle.sj_machine.specs.Names.{AllBindBelow, AreBelowName, BindsBelow}
 ghost use Rattle.sj_machine.specs.Table.{vars_in};
 ghost use Rattle.sj_semantics.specs.Value.{no_vars};
 
-use crate::arena::{Node, Op};
+use crate::arena::{CodeNode, Op};
 use sj_base::{EndId, NoMemory};
 use sj_lang::{EndDecl, File, Party};
 use sj_semantics::Value;
@@ -100,7 +100,7 @@ fn above_bound(op: &Op) -> usize
 }
 
 /// A number above each name that the party has or may bind.
-pub fn names_above(nodes: &[Node], ends: &[(u16, EndId)]) -> usize
+pub fn names_above(nodes: &[CodeNode], ends: &[(u16, EndId)]) -> usize
     ensures nodes { AllBindBelow result nodes.now }
     ensures ends { AreBelowName result ends.now }
 {

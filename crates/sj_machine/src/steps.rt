@@ -8,7 +8,7 @@ ghost use Rattle.sj_machine.specs.Table.{vars_in};
 ghost use Rattle.sj_semantics.specs.Steps.{ends_after_closed, ends_after_sent, ends_after_took, rest_of, todo_after_local};
 ghost use Rattle.sj_semantics.specs.Steps.{todo_after_sent, todo_after_took, vars_after_local, vars_after_took};
 
-use crate::arena::Node;
+use crate::arena::CodeNode;
 use crate::bindings::{ends_closed, ends_opened, ends_sent, ends_took, vars_local, vars_took};
 use crate::leads::{after_local, after_sent, after_took};
 use crate::stack::{After, Stack};
@@ -16,7 +16,7 @@ use sj_base::{EndId, Msg};
 use sj_semantics::Value;
 
 /// A step without a message.
-pub fn local(nodes: &Vec<Node>, stack: &mut Stack, vars: &mut [Option<Value>])
+pub fn local(nodes: &Vec<CodeNode>, stack: &mut Stack, vars: &mut [Option<Value>])
     requires back { IsBackward 0 nodes.now.items }
     requires fits { Fits (length nodes.now.items) 0 stack.old.0 }
     requires room { length nodes.now.items < stack.old.1 }
@@ -38,7 +38,7 @@ pub fn local(nodes: &Vec<Node>, stack: &mut Stack, vars: &mut [Option<Value>])
 
 /// A step that sends a message or delegates an end.
 pub fn sent(
-    nodes: &Vec<Node>,
+    nodes: &Vec<CodeNode>,
     stack: &mut Stack,
     vars: &[Option<Value>],
     ends: &mut Vec<(u16, EndId)>,
@@ -66,7 +66,7 @@ pub fn sent(
 
 /// A step that takes a message.
 pub fn took(
-    nodes: &Vec<Node>,
+    nodes: &Vec<CodeNode>,
     stack: &mut Stack,
     vars: &mut [Option<Value>],
     ends: &mut Vec<(u16, EndId)>,
@@ -99,7 +99,7 @@ pub fn took(
 }
 
 /// A step that closes an end.
-pub fn closed(nodes: &Vec<Node>, stack: &mut Stack, ends: &mut Vec<(u16, EndId)>)
+pub fn closed(nodes: &Vec<CodeNode>, stack: &mut Stack, ends: &mut Vec<(u16, EndId)>)
     requires back { IsBackward 0 nodes.now.items }
     requires fits { Fits (length nodes.now.items) 0 stack.old.0 }
     requires room { length nodes.now.items < stack.old.1 }
@@ -122,7 +122,7 @@ pub fn closed(nodes: &Vec<Node>, stack: &mut Stack, ends: &mut Vec<(u16, EndId)>
 
 /// A step that opens or accepts a session.
 pub fn opened(
-    nodes: &Vec<Node>,
+    nodes: &Vec<CodeNode>,
     stack: &mut Stack,
     names: usize,
     ends: &mut Vec<(u16, EndId)>,

@@ -24,7 +24,7 @@ use Rattle.sj_node.specs.declared.node.Node.{Node}
 use Rattle.sj_node.specs.declared.refusal.Halt.{Halt}
 use Rattle.sj_node.specs.declared.refusal.Halt.TheVariants as halts
 use Rattle.sj_node.specs.Halts.{hold_up, names_awaited, stop_by}
-use Rattle.sj_node.specs.Node.{act_of, is_below_count, main_of, node_at, offers_of, play_here, steps_of, stop_of, wants_of}
+use Rattle.sj_node.specs.Node.{act_of, is_below_count, main_of, node_at, offers_of, play_here, steps_of, node_halt, wants_of}
 use Rattle.sj_node.specs.Play.{awaited_place, names_known}
 use Rattle.sj_node.specs.Slots.{mains_in}
 use Rattle.sj_node.specs.Taking.{held_head}
@@ -160,7 +160,7 @@ some_step n (wants.Accept p from) stop agrees fit none =
 some_step n wants.Ended stop agrees fit none = cc
 
 -- a step that nothing holds up, and that its places let, has no act for one of the causes alone
-pub only_misfits : (n : Node) → stop_of n ≡ None → Agrees n (wants_of n) → act_of n ≡ None → IsSome (misfit_of n)
+pub only_misfits : (n : Node) → node_halt n ≡ None → Agrees n (wants_of n) → act_of n ≡ None → IsSome (misfit_of n)
 only_misfits n stop agrees none = go (misfit_of n) refl
   where
     steps : steps_of n < 10000

@@ -9,7 +9,6 @@ pub mod GiveLemmas
 pub mod IdleLemmas
 pub mod LetsLemmas
 pub mod NodeLemmas
-pub mod OfferLemmas
 pub mod OpeningLemmas
 pub mod OutLemmas
 pub mod PassLemmas

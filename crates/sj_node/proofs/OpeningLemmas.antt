@@ -1,6 +1,7 @@
 -- Calls that request a session or accept one, and the acts that are such calls.
-use Rattle.std.proofs.Common.{◌≡◌, ℕ, ◌+◌, ◌<◌, true, ltb, if◌then◌else◌, [], ◌∷◌, Option, Some, None, option_map, refl, ap, subst, sym, ◌∙◌, arith}
-use Rattle.std.specs.Prelude.{Err, IsErrOf, nat_lt}
+use Rattle.std.proofs.Common.{◌≡◌, ℕ, ◌+◌, ◌<◌, true, false, ltb, if◌then◌else◌, [], ◌∷◌, Option, Some, None, option_map, refl, ap, subst, sym, ◌∙◌, arith}
+use Rattle.std.proofs.Common.{Result, Ok, OnOk}
+use Rattle.std.specs.Prelude.{Err, IsErrOf, is_err, nat_lt}
 use Rattle.std.proofs.lemmas.Bool.Decides.{nat_tests}
 use Rattle.sj_base.specs.declared.EndId.{EndId}
 use Rattle.sj_lang.specs.Place.{Place}
@@ -21,7 +22,7 @@ use Rattle.sj_node.specs.declared.node.Node.{Node}
 use Rattle.sj_node.specs.declared.refusal.Halt.{Halt}
 use Rattle.sj_node.specs.Calls.{call_of, place_here, silent}
 use Rattle.sj_node.specs.Node.{accepted_note, act_of, main_of, node_at, offers_of, play_here, steps_of, wants_of}
-use Rattle.sj_node.specs.Offers.{offering}
+use Rattle.sj_offers.specs.Offers.{offering}
 use Rattle.sj_node.specs.Opening.{Accepts}
 use Rattle.sj_node.specs.Parking.{held_of}
 use Rattle.sj_node.specs.Requests.{accept_note, accepted_by, requested_by}
@@ -131,3 +132,8 @@ accepts_none n p from place is steps spot none = by (smallest (offers_of n from)
 -- a refusal is the same, whatever an answer would have been
 pub refused_so : {T U : Type 0} (e h : Halt) → IsErrOf {T = T} (Err e) h → IsErrOf {T = U} (Err e) h
 refused_so e h is = let same : e ≡ h = cc in ap Err same
+
+-- what holds where the answer is no refusal
+pub was_ok : {T E : Type 0} {P : Type 0} (r : Result T E) → is_err r ≡ false → OnOk r P → P
+was_ok (Ok x) no_err h = h
+was_ok (Err e) no_err h = cc

@@ -5,7 +5,7 @@ use Rattle.std.specs.declared.alloc.Global.{Global}
 use Rattle.std.specs.declared.collections.VecDeque.{VecDeque}
 use Rattle.sj_table.specs.declared.table.Spot.{Spot}
 use Rattle.sj_rules.specs.Frames.{FrameAt, IsNoGive}
-use Rattle.sj_end.specs.declared.wire.Frame.{Frame}
+use Rattle.sj_end.specs.declared.frames.Frame.{Frame}
 use Rattle.sj_end.specs.Views.{frame_at}
 use Rattle.sj_node.specs.Gives.{HasNoGive}
 use Rattle.sj_node.specs.Outs.{waiting_in}

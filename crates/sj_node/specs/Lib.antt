@@ -7,7 +7,6 @@ pub mod Giving
 pub mod Halts
 pub mod Keeping
 pub mod Node
-pub mod Offers
 pub mod Opening
 pub mod Outs
 pub mod Parking

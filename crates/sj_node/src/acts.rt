@@ -1,7 +1,7 @@
 //! Acts of a party.
 ghost use Rattle.std.specs.Prelude.{◌≡◌, ◌+◌, ◌<◌, ◌↔◌, OnOk, OnErr, IfErr, IsErrOf, IsSome, Some, None};
 ghost use Rattle.sj_end.specs.declared.note.Event.TheVariants as events;
-ghost use Rattle.sj_node.specs.Node.{Does, Stays, act_of, clock_of, note_for, connect_count, steps_of, stop_of, wants_of};
+ghost use Rattle.sj_node.specs.Node.{Does, Stays, act_of, clock_of, note_for, connect_count, steps_of, node_halt, wants_of};
 ghost use Rattle.sj_node.specs.Halts.{is_late};
 ghost use Rattle.sj_node.specs.Unfit.{Agrees, misfit_of};
 ghost use Rattle.sj_node.specs.declared.refusal.Halt.TheVariants as halts;
@@ -35,9 +35,9 @@ impl Node {
             IsSome (misfit_of self.old) }
 
         // Each of these comes just where it is the first cause that applies.
-        ensures ended { IsErrOf result Halt.Ended ↔ (stop_of self.old ≡ Some halts.Ended) }
-        ensures at_limit { IsErrOf result Halt.AtLimit ↔ (stop_of self.old ≡ Some halts.AtLimit) }
-        ensures waits { IsErrOf result Halt.Waits ↔ (stop_of self.old ≡ Some halts.Waits) }
+        ensures ended { IsErrOf result Halt.Ended ↔ (node_halt self.old ≡ Some halts.Ended) }
+        ensures at_limit { IsErrOf result Halt.AtLimit ↔ (node_halt self.old ≡ Some halts.AtLimit) }
+        ensures waits { IsErrOf result Halt.Waits ↔ (node_halt self.old ≡ Some halts.Waits) }
     {
         let want = self.machine.wants();
         match self.stop_at(want) {
@@ -49,7 +49,7 @@ impl Node {
     fn step(&mut self, want: Want) -> Result<(), Halt>
         requires step { wants_of self.old ≡ want }
         requires clock { clock_of self.old < clock_end }
-        requires goes { stop_of self.old ≡ None }
+        requires goes { node_halt self.old ≡ None }
         ensures ok { OnOk result (Does self.old (act_of self.old) (clock_of self.old + 1) events.Act
             (note_for self.old) self.new) }
         ensures err { OnErr result (Stays self.old self.new) }

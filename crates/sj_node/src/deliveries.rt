@@ -10,10 +10,10 @@ ghost use Rattle.sj_rules.specs.Frames.{IsNoGive};
 ghost use Rattle.sj_rules.specs.Node.{with_number};
 ghost use Rattle.sj_rules.specs.Record as rules;
 
-use crate::messages::{carry_comes, fin_comes};
+use crate::carries::{carry_comes, fin_comes};
 use crate::outs::{make_room, put_all, put_frame};
 use crate::records::{
-    Kept, acked_to, cached_old_at, claimed, crossed_to, kept_at, parked_peer, signal_to_parked,
+    OldKind, acked_to, cached_old_at, claimed, crossed_to, kept_at, parked_peer, signal_to_parked,
     signalled_out,
 };
 use crate::signals::{cached_at, signal_to_main};
@@ -148,7 +148,7 @@ impl Node {
         party: u16,
         taken: u32,
     ) -> Result<(), DeliverRefusal>
-        requires { kept_of (with_number conn (olds_in self.old.olds.items to)) ≡ Kept.Parked }
+        requires { kept_of (with_number conn (olds_in self.old.olds.items to)) ≡ OldKind.Parked }
         ensures ok { OnOk result (IsRow self.old from (rules.Signal to conn party taken) clock self.new) }
         ensures unfit { IsErrOf result DeliverRefusal.Unfit →
             LacksRow self.old from (rules.Signal to conn party taken) }
@@ -177,7 +177,7 @@ impl Node {
         party: u16,
         taken: u32,
     ) -> Result<(), DeliverRefusal>
-        requires { kept_of (with_number conn (olds_in self.old.olds.items to)) ≡ Kept.Signalled }
+        requires { kept_of (with_number conn (olds_in self.old.olds.items to)) ≡ OldKind.Signalled }
         ensures ok { OnOk result (IsRow self.old from (rules.Signal to conn party taken) clock self.new) }
         ensures unfit { IsErrOf result DeliverRefusal.Unfit →
             LacksRow self.old from (rules.Signal to conn party taken) }
@@ -216,9 +216,9 @@ impl Node {
         ensures connects { connect_count self.new ≡ connect_count self.old }
     {
         match kept_at(&self.olds, to, conn) {
-            Kept::Nothing => self.signal_at_main(from, clock, to, conn, party, taken),
-            Kept::Parked => self.signal_at_parked(from, clock, to, conn, party, taken),
-            Kept::Signalled => self.signal_at_signalled(from, clock, to, conn, party, taken),
+            OldKind::Nothing => self.signal_at_main(from, clock, to, conn, party, taken),
+            OldKind::Parked => self.signal_at_parked(from, clock, to, conn, party, taken),
+            OldKind::Signalled => self.signal_at_signalled(from, clock, to, conn, party, taken),
         }
     }
 }

@@ -2,15 +2,15 @@
 ghost use Rattle.std.specs.Prelude.{◌≡◌};
 ghost use Rattle.sj_node.specs.Halts.{accept_stop, hold_up, names_awaited, request_stop, stop_by};
 ghost use Rattle.sj_node.specs.Node.{offers_of, steps_of};
-ghost use Rattle.sj_node.specs.Offers.{offers_in};
+ghost use Rattle.sj_offers.specs.Offers.{offers_in};
 ghost use Rattle.sj_node.specs.Slots.{mains_in};
 ghost use Rattle.sj_rules.specs.Halts.{is_delegated_enough, is_expected, lacks_message};
 
-use crate::offers::is_offering;
 use crate::slots::{Main, slot_of};
 use crate::{Halt, Node};
 use sj_base::EndId;
 use sj_machine::{MAX_HOPS, MAX_REQUESTS, MAX_STEPS};
+use sj_offers::is_offering;
 use sj_semantics::Want;
 
 impl Node {
@@ -19,7 +19,7 @@ impl Node {
         ensures { result ≡ stop_by (mains_in self.now.mains.items) self.now.requests (offers_of self.now)
             (steps_of self.now) want }
     {
-        stop_of(
+        node_halt(
             &self.mains,
             self.requests,
             &self.offers,
@@ -31,7 +31,7 @@ impl Node {
 
 /// The first cause that applies: ended, at 10,000 steps, an awaited end, 100 handovers, no message,
 /// 100 requests, no offer.
-pub(crate) fn stop_of(
+pub(crate) fn node_halt(
     mains: &[Option<Main>],
     requests: u8,
     offers: &[Vec<u32>],

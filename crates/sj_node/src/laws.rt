@@ -13,7 +13,7 @@ ghost use Rattle.sj_end.specs.declared.note.Event.TheVariants as events;
 ghost use Rattle.sj_end.specs.declared.note.Note.{Note};
 ghost use Rattle.sj_node.specs.Calls.{call_of};
 ghost use Rattle.sj_node.specs.Halts.{accept_stop, request_stop};
-ghost use Rattle.sj_node.specs.Node.{Did, Does, act_of, clock_of, next_head, node_at, offers_of, play_here, requests_of, stop_of, wants_of};
+ghost use Rattle.sj_node.specs.Node.{Did, Does, act_of, clock_of, next_head, node_at, offers_of, play_here, requests_of, node_halt, wants_of};
 ghost use Rattle.sj_node.specs.declared.node.Node.{Node};
 ghost use Rattle.sj_node.specs.declared.seats.Call.{Call};
 ghost use Rattle.sj_node.specs.Play.{HeadsAre, asking, names_known, play_with};
@@ -64,7 +64,7 @@ pub fn misfits_have_no_act()
 /// Where nothing holds the step up, and the places of its ends let it, there is no act for one of
 /// the four causes alone.
 pub fn only_misfits_have_no_act()
-    ensures { (n : Node) → stop_of n ≡ None → Agrees n (wants_of n) → act_of n ≡ None →
+    ensures { (n : Node) → node_halt n ≡ None → Agrees n (wants_of n) → act_of n ≡ None →
         IsSome (misfit_of n) }
 {}
 

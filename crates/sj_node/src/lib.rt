@@ -4,6 +4,7 @@
 mod acts;
 mod arrivals;
 mod calls;
+mod carries;
 mod delegations;
 mod deliveries;
 mod departures;
@@ -12,9 +13,8 @@ mod halts;
 mod handovers;
 mod laws;
 mod limits;
-mod messages;
 mod node;
-mod offers;
+mod numbers;
 mod openings;
 mod outs;
 mod readers;

@@ -15,7 +15,7 @@ ghost use Rattle.sj_rules.specs.Node as rules;
 
 use crate::departures::make_main_slot;
 use crate::handovers::{is_vacant, put_held};
-use crate::offers::{is_opened_by, offer, offered_by, withdraw};
+use crate::numbers::is_opened_by;
 use crate::outs::{make_room, put_frame};
 use crate::slots::{Main, slot_of};
 use crate::takes::is_free;
@@ -23,6 +23,7 @@ use crate::{DeliverRefusal, Halt, Node};
 use sj_base::EndId;
 use sj_end::{Body, Entry, Event, Frame, Held, Note};
 use sj_machine::opened_number;
+use sj_offers::{offer, offered_by, withdraw};
 use sj_table::Spot;
 
 impl Node {

@@ -12,11 +12,10 @@ ghost use Rattle.sj_semantics.specs.Program.{Program};
 ghost use Rattle.sj_table.specs.declared.table.Spot.{Spot};
 
 use crate::DeliverRefusal;
-use crate::limits::MAX_CONN;
 use crate::signals::{pass_parked, signal_fits};
 use crate::slots::{Old, slot_of};
 use sj_base::EndId;
-use sj_end::{Parked, Post, Signalled};
+use sj_end::{MAX_CONN, Parked, Post, Signalled};
 use sj_handover::signal;
 use std::alloc::Global;
 
@@ -101,35 +100,35 @@ pub(crate) fn acked_to(olds: &[Option<Old>], from: u16, of: EndId, conn: u32) ->
 }
 
 /// What an old record is.
-pub(crate) enum Kept {
+pub(crate) enum OldKind {
     Nothing,
     Parked,
     Signalled,
 }
 
 /// Which old record of the end has that connection number.
-pub(crate) fn kept_at(olds: &[Option<Old>], end: EndId, conn: u32) -> Kept
+pub(crate) fn kept_at(olds: &[Option<Old>], end: EndId, conn: u32) -> OldKind
     ensures { result ≡ kept_of (with_number conn (olds_in olds.now end)) }
 {
     let Some(at) = slot_of(end, olds.len()) else {
-        return Kept::Nothing;
+        return OldKind::Nothing;
     };
     match &olds[at] {
         Some(Old::Parked(parked)) => {
             if parked.end.conn == conn {
-                Kept::Parked
+                OldKind::Parked
             } else {
-                Kept::Nothing
+                OldKind::Nothing
             }
         }
         Some(Old::Signalled(signalled)) => {
             if signalled.end.conn == conn {
-                Kept::Signalled
+                OldKind::Signalled
             } else {
-                Kept::Nothing
+                OldKind::Nothing
             }
         }
-        None => Kept::Nothing,
+        None => OldKind::Nothing,
     }
 }
 
@@ -141,7 +140,7 @@ pub(crate) fn crossed_to(
     conn: u32,
     taken: u32,
 ) -> Option<u16>
-    requires { kept_of (with_number conn (olds_in olds.now to)) ≡ Kept.Signalled }
+    requires { kept_of (with_number conn (olds_in olds.now to)) ≡ OldKind.Signalled }
     ensures some { IfSome result (λ t. CrossFits from conn taken t (olds_in olds.now to)) }
     ensures none { IfNone result ((n : NodeAt Spot Program) (party : ℕ) → n.old ≡ olds_in olds.now →
         comes max n from (rules.Signal to conn party taken) ≡ None) }

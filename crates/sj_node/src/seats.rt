@@ -12,7 +12,7 @@ ghost use Rattle.sj_node.specs.declared.refusal.Halt.TheVariants as halts;
 ghost use Rattle.sj_rules.specs.Limits.{clock_end};
 ghost use Rattle.sj_rules.specs.Node as rules;
 
-use crate::halts::stop_of;
+use crate::halts::node_halt;
 use crate::takes::{head_at, is_known};
 use crate::{Halt, Node};
 use sj_base::{EndId, Msg};
@@ -81,7 +81,7 @@ impl Node {
         ensures ended { result ≡ Some halts.Ended → ⊥ }
     {
         let want = want_of(call);
-        stop_of(&self.mains, self.requests, &self.offers, 0, want)
+        node_halt(&self.mains, self.requests, &self.offers, 0, want)
     }
 
     // A call that nothing holds up.

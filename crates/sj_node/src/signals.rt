@@ -14,10 +14,9 @@ ghost use Rattle.sj_table.specs.declared.table.Spot.{Spot};
 
 use crate::DeliverRefusal;
 use crate::arrivals::defer;
-use crate::limits::MAX_CONN;
 use crate::slots::{Main, slot_of};
 use sj_base::EndId;
-use sj_end::{Body, Closed, End, Held, Parked, Post};
+use sj_end::{Body, Closed, End, Held, MAX_CONN, Parked, Post};
 use sj_handover::{Usable, passive};
 use std::alloc::Global;
 

@@ -11,7 +11,7 @@ ghost use Rattle.sj_rules.specs.Record as rules;
 ghost use Rattle.sj_table.specs.Spots.{place_in, start_in};
 
 use crate::Halt;
-use crate::offers::is_session;
+use crate::numbers::is_session;
 use crate::slots::{Main, slot_of};
 use sj_base::{EndId, Msg};
 use sj_end::{Expected, Held};

@@ -12,7 +12,7 @@ use Rattle.sj_grammar.specs.declared.tokens.Fault.{Fault}
 use Rattle.sj_lang.specs.Limits.{limits}
 use Rattle.sj_grammar.specs.Lexis.{Ahead, next_of}
 use Rattle.sj_grammar.specs.Names.{is_name, is_reserved}
-use Rattle.sj_grammar.specs.Reading.{Reading, line_at, before_next}
+use Rattle.sj_grammar.specs.Reading.{Reading, line_number, before_next}
 use Rattle.sj_grammar.specs.Tables.{Spelling, IsNamed}
 use Rattle.sj_grammar.specs.Positions.{At, Takes, plain, first_on}
 use Rattle.sj_grammar.specs.Files.{end_pieces, connect_pieces, connects_pieces, IsEnd, IsConnect}
@@ -110,7 +110,7 @@ module _ (r q : Reading) (names : Names) (k : ℕ) (room : k < 64) (first : Take
         pub second_stuck : (n : ℕ) (ds : List Due) (f : Fault) → Stuck file_layer limits n (standing v last) (behind_first k ds) f → Stuck file_layer limits n (standing r names) (connects k ∷ ds) f
         second_stuck n ds f st = to_stuck n ds f (end_stuck (standing u new) (standing v last) e n (behind_first k ds) f also st)
 
-        pub connect_gives : (w : Reading) (line : ℕ) → TakesText v (codes ";") w → line ≡ line_at (before_next r (next_of r.ahead)) → GivesConnect (standing r names) (standing w last) (record { line = line; first = d; second = e })
+        pub connect_gives : (w : Reading) (line : ℕ) → TakesText v (codes ";") w → line ≡ line_number (before_next r (next_of r.ahead)) → GivesConnect (standing r names) (standing w last) (record { line = line; first = d; second = e })
         connect_gives w line closed on =
             let c : ConnectAt = record { line = line; first = d; second = e } in
             let ending = lines_one (standing v last) (standing w last) (plain (codes ";")) (record { taken = exits.plain v w last (codes ";") refl refl closed; line = tt }) in
@@ -122,7 +122,7 @@ module _ (r q : Reading) (names : Names) (k : ℕ) (room : k < 64) (first : Take
             Lines-as (standing r names) (standing w last) (λ names. first_on line (codes "connect") ∷ (end_pieces names.word d ++ plain (codes "to") ∷ (end_pieces names.word e ++ plain (codes ";") ∷ []))) (λ names. connect_pieces names.word c)
             (λ names. IsEnd limits names d × (IsEnd limits names e × Unit {0})) (λ names. IsConnect limits names c) (λ names. refl) (λ names h. record { first = h.0; second = h.1.0 })
             (Lines-cons (standing r names) (standing q names) (standing w last) (first_on line (codes "connect")) (λ names. end_pieces names.word d ++ plain (codes "to") ∷ (end_pieces names.word e ++ plain (codes ";") ∷ []))
-            (λ names. IsEnd limits names d × (IsEnd limits names e × Unit {0})) (record { taken = took_connect; line = on ∙ ap (λ (x : Ahead). line_at (before_next r x)) took_connect.token }) both)
+            (λ names. IsEnd limits names d × (IsEnd limits names e × Unit {0})) (record { taken = took_connect; line = on ∙ ap (λ (x : Ahead). line_number (before_next r x)) took_connect.token }) both)
 
 connects-push : (word : ℕ → List ℕ) (cs : List ConnectAt) (c : ConnectAt) → connects_pieces word (cs ++ c ∷ []) ≡ connects_pieces word cs ++ connect_pieces word c
 connects-push word [] c = append-nil (connect_pieces word c)

@@ -4,7 +4,7 @@ use Rattle.std.specs.Prelude.{codes}
 use Rattle.std.specs.Str.{bytes_eq}
 use Rattle.sj_lang.specs.FileAt.{ProtocolAt, PartyAt, DeclAt, ConnectAt, FileAt}
 use Rattle.sj_lang.specs.Limits.{Limits, limits}
-use Rattle.sj_grammar.specs.Reading.{passed, line_at}
+use Rattle.sj_grammar.specs.Reading.{passed, line_number}
 use Rattle.sj_grammar.specs.Tables.{Spelling, entry_of}
 use Rattle.sj_grammar.specs.Positions.{Pieces, Piece, At, BeginsOnLines, plain, all_plain, spellings, start}
 use Rattle.sj_grammar.specs.Protocols.{body_pieces}
@@ -31,7 +31,7 @@ lines_alike (p ∷ ps) [] a b d h g e = cc
 lines_alike (p ∷ ps) (q ∷ qs) a b d h g e =
     let one = one_token a h.0 g.0 p.spelled q.spelled h.1.taken g.1.taken in
     let rests : h.1.taken.rest ≡ g.1.taken.rest = cc (sym h.1.taken.token ∙ g.1.taken.token) in
-    let line : line_at (passed a.text (p.spelled ++ h.1.taken.rest)) ≡ line_at (passed a.text (q.spelled ++ g.1.taken.rest)) = λ i. line_at (passed a.text (one.0 i ++ rests i)) in (
+    let line : line_number (passed a.text (p.spelled ++ h.1.taken.rest)) ≡ line_number (passed a.text (q.spelled ++ g.1.taken.rest)) = λ i. line_number (passed a.text (one.0 i ++ rests i)) in (
       one.0,
       on_one_line p.line q.line _ _ line h.1.line g.1.line,
       lines_alike ps qs h.0 b d h.2 (subst (λ (x : At). BeginsOnLines x qs d) (sym one.1) g.2) (ap (drop 1) e),

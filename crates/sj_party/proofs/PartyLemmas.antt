@@ -12,7 +12,7 @@ use Rattle.sj_grammar.specs.declared.tokens.Fault.{Fault}
 use Rattle.sj_lang.specs.Limits.{limits}
 use Rattle.sj_grammar.specs.Lexis.{Ahead, next_of}
 use Rattle.sj_grammar.specs.Names.{is_name, is_reserved}
-use Rattle.sj_grammar.specs.Reading.{Reading, line_at, before_next}
+use Rattle.sj_grammar.specs.Reading.{Reading, line_number, before_next}
 use Rattle.sj_grammar.specs.Tables.{Spelling, IsNamed, entry_of}
 use Rattle.sj_grammar.specs.Positions.{Piece, At, Takes, BeginsOnLines, plain, first_on, spellings}
 use Rattle.sj_grammar.specs.Statements.{braced}
@@ -82,7 +82,7 @@ module _ (r q : Reading) (names : Names) (k : ℕ) (room : k < 16) (first : Take
             (leads_stuck n (standing u new) b reads.pieces (stmts 0 ∷ behind_code k ds) (stmts 0 ∷ behind_code k ds) f reads.begins (code_leads limits (spelling_at b) (reads.are (spelling_at b) (agrees_itself b)) n (behind_code k ds))
             (λ m. skip file_layer limits m b (stmts 0) (behind_code k ds) f refl passes (st m)))
 
-        pub party_reads : (w : Reading) (line : ℕ) → TakesText v (codes "}") w → line ≡ line_at (before_next r (next_of r.ahead)) → ReadsParties (standing r names) (standing w last) (record { line = line; name = l; code = code } ∷ [])
+        pub party_reads : (w : Reading) (line : ℕ) → TakesText v (codes "}") w → line ≡ line_number (before_next r (next_of r.ahead)) → ReadsParties (standing r names) (standing w last) (record { line = line; name = l; code = code } ∷ [])
         party_reads w line closed on =
             let b = standing w last in
             let mine = named (entry_of new.words) (itself new.words) in
@@ -95,7 +95,7 @@ module _ (r q : Reading) (names : Names) (k : ℕ) (room : k < 16) (first : Take
               pieces = first_on line (codes "party") ∷ plain word ∷ inner;
               begins = (
                 standing q names,
-                record { taken = took_party; line = on ∙ ap (λ (x : Ahead). line_at (before_next r x)) took_party.token },
+                record { taken = took_party; line = on ∙ ap (λ (x : Ahead). line_number (before_next r x)) took_party.token },
                 (mine.0.0, record { taken = mine.0.1; line = tt }, subst (λ (x : At). BeginsOnLines x inner b) (sym mine.0.2) block),
               );
               are = λ s g.

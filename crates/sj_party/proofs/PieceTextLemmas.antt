@@ -5,7 +5,7 @@ use Rattle.std.specs.List.{list_all}
 use Rattle.sj_grammar.specs.declared.tokens.What.{What}
 use Rattle.sj_grammar.specs.Bytes.{is_blank}
 use Rattle.sj_grammar.specs.Lexis.{token, next_of}
-use Rattle.sj_grammar.specs.Reading.{Reading, passed, line_at}
+use Rattle.sj_grammar.specs.Reading.{Reading, passed, line_number}
 use Rattle.sj_grammar.specs.Positions.{Piece, At, at, BeginsOnLines, plain, first_on, spellings}
 use Rattle.sj_grammar.specs.Names.{is_name}
 use Rattle.sj_grammar.specs.Literals.{is_text, inner}
@@ -20,7 +20,7 @@ AreBlank g = list_all is_blank g ≡ true
 -- the next token is that piece, on its line
 pub record TakesOnLine (r : Reading) (p : Piece) (m : Reading) : Type 0 where
   pub taken : TakesText r p.spelled m
-  pub line : IfSome p.line (λ l. l ≡ line_at (passed r (p.spelled ++ taken.rest)))
+  pub line : IfSome p.line (λ l. l ≡ line_number (passed r (p.spelled ++ taken.rest)))
 
 -- the tokens ahead are these pieces
 abbrev pub LexesOnLines : Reading → List Piece → Reading → Type 0
@@ -95,7 +95,7 @@ one_line Behind t s what next = λ before g rest blank free. record {
 
 -- the line on which a token begins
 abbrev pub line_here : List ℕ → List ℕ → List ℕ → List ℕ → ℕ
-line_here before g s rest = line_at (passed (read before (g ++ (s ++ rest))) (s ++ rest))
+line_here before g s rest = line_number (passed (read before (g ++ (s ++ rest))) (s ++ rest))
 
 pub first_line : (s : List ℕ) (what : What) (before g rest : List ℕ) → AreBlank g → next_of (s ++ rest) ≡ token what s rest → Reaches (read before (g ++ (s ++ rest))) (first_on (line_here before g s rest) s ∷ []) rest
 first_line s what before g rest blank next = record {

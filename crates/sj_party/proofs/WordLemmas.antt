@@ -7,7 +7,7 @@ use Rattle.sj_lang.specs.Limits.{limits}
 use Rattle.sj_grammar.specs.Lexis.{Ahead, next_of}
 use Rattle.sj_grammar.specs.Literals.{is_text}
 use Rattle.sj_grammar.specs.Names.{is_name, is_reserved}
-use Rattle.sj_grammar.specs.Reading.{Reading, line_at, before_next}
+use Rattle.sj_grammar.specs.Reading.{Reading, line_number, before_next}
 use Rattle.sj_grammar.specs.Positions.{At, Takes, TakesPiece, first_on}
 use Rattle.sj_grammar.specs.Layers.{goes, step}
 use Rattle.sj_grammar.specs.FileDues.{Due, stmts, statement_follow, file_layer}
@@ -84,10 +84,10 @@ took_word : (w : FirstWord) (r q : Reading) (names : Names) → TakesText r (wor
 took_word w r q names t = plain r q names (word_of w) (no_name_word w) (no_text_word w) t
 
 -- the first word on its line
-pub word_piece : (w : FirstWord) (l : ℕ) (r q : Reading) (names : Names) → TakesText r (word_of w) q → l ≡ line_at (before_next r (next_of r.ahead)) → TakesPiece (standing r names) (first_on l (word_of w)) (standing q names)
+pub word_piece : (w : FirstWord) (l : ℕ) (r q : Reading) (names : Names) → TakesText r (word_of w) q → l ≡ line_number (before_next r (next_of r.ahead)) → TakesPiece (standing r names) (first_on l (word_of w)) (standing q names)
 word_piece w l r q names t line =
     let taken = took_word w r q names t in
-    record { taken = taken; line = line ∙ ap (λ (x : Ahead). line_at (before_next r x)) taken.token }
+    record { taken = taken; line = line ∙ ap (λ (x : Ahead). line_number (before_next r x)) taken.token }
 
 -- after the first word
 pub word_stops : (w : FirstWord) (o : ℕ) (r q : Reading) (names : Names) (e : ParseRefusal) → TakesText r (word_of w) q → ((n : ℕ) → Stops (λ ds. dues_behind w o ds) n (standing q names) e) → (n : ℕ) → Stops (λ ds. stmts o ∷ ds) n (standing r names) e

@@ -1,7 +1,7 @@
 //! The words that statements begin with.
 ghost use Rattle.std.specs.Prelude.{◌≡◌, ℕ, ◌<◌, None, length, IfSome, IfNone};
 ghost use Rattle.sj_grammar.specs.Lexis.{next_of};
-ghost use Rattle.sj_grammar.specs.Reading.{line_at, before_next};
+ghost use Rattle.sj_grammar.specs.Reading.{line_number, before_next};
 ghost use Rattle.sj_grammar.specs.FileDues.{stmts, statement_follow, file_layer};
 ghost use Rattle.sj_grammar.specs.Asked.{TakesText, Passes};
 ghost use Rattle.sj_proto.specs.Onward.{Advances};
@@ -102,7 +102,7 @@ fn first_word_in(piece: &[u8]) -> Option<FirstWord>
 pub fn begin(tokens: &mut Tokens) -> Option<Begun>
     ensures taken { IfSome result (λ b. TakesText tokens.old (word_of b.first) tokens.new) }
     ensures line { IfSome result (λ b.
-        b.line ≡ line_at (before_next tokens.old (next_of tokens.old.ahead))) }
+        b.line ≡ line_number (before_next tokens.old (next_of tokens.old.ahead))) }
     ensures shorter { IfSome result (λ _. length tokens.new.ahead < length tokens.old.ahead) }
     ensures kept { IfNone result (tokens.new ≡ tokens.old) }
     ensures onward { Advances tokens.old tokens.new }

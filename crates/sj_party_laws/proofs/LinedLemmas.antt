@@ -1,13 +1,13 @@
 -- Tokens on the lines on which they stand, and pieces that are alike.
 use Rattle.std.proofs.Common.{◌≡◌, ℕ, List, [], ◌∷◌, ◌++◌, IfSome, Option, Some, None, refl, ap, sym, ◌∙◌}
 use Rattle.sj_grammar.specs.Lexis.{token}
-use Rattle.sj_grammar.specs.Reading.{passed, line_at}
+use Rattle.sj_grammar.specs.Reading.{passed, line_number}
 use Rattle.sj_grammar.specs.Positions.{Pieces, Piece, At, past, Takes, TakesPiece, Begins, BeginsOnLines, first_on, spellings}
 use Rattle.sj_party.specs.Alike.{OnOneLine, AreAlike}
 
 -- the line on which the next token begins
 abbrev pub line_of : (a m : At) (s : List ℕ) → Takes a s m → ℕ
-line_of a m s t = line_at (passed a.text (s ++ t.rest))
+line_of a m s t = line_number (passed a.text (s ++ t.rest))
 
 -- each token on its line
 abbrev pub lined : (ps : Pieces) (a b : At) → Begins a ps b → List Piece
@@ -25,9 +25,9 @@ piece_taken a m s p t e on = record {
   line = by_line p.line on;
 }
   where
-    by_line : (l : Option ℕ) → OnOneLine l (Some (line_of a m s t)) → IfSome l (λ l. l ≡ line_at (passed a.text (p.spelled ++ t.rest)))
+    by_line : (l : Option ℕ) → OnOneLine l (Some (line_of a m s t)) → IfSome l (λ l. l ≡ line_number (passed a.text (p.spelled ++ t.rest)))
     by_line None h = tt
-    by_line (Some l) h = h ∙ ap (λ x. line_at (passed a.text (x ++ t.rest))) (sym e)
+    by_line (Some l) h = h ∙ ap (λ x. line_number (passed a.text (x ++ t.rest))) (sym e)
 
 -- pieces that are alike stand there, each on its line
 pub begins_alike : (ps : Pieces) (a b : At) (h : Begins a ps b) (qs : List Piece) → AreAlike qs (lined ps a b h) → BeginsOnLines a qs b

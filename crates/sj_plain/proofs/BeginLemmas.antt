@@ -12,7 +12,7 @@ use Rattle.sj_table.specs.declared.table.Table.{Table}
 use Rattle.sj_plain.specs.declared.course.Course.{Course}
 use Rattle.sj_plain.specs.Course.{acts_in, file_in, world_in}
 use Rattle.sj_plain.specs.Ends.{StartsAt, connected_session}
-use Rattle.sj_plain.specs.Kept.{without_words}
+use Rattle.sj_plain.specs.SharedFile.{without_words}
 use Rattle.sj_plain.specs.Opened.{requests_in, world_with}
 
 ends_same : (file : FileAt) (p n : ℕ) (cs : List ConnectAt) → ends_from (without_words file) p n cs ≡ ends_from file p n cs

@@ -8,7 +8,7 @@ use Rattle.sj_semantics.specs.Run.{IsRun, after_acts}
 use Rattle.sj_semantics.specs.State.{opened_in}
 use Rattle.sj_semantics.specs.World.{World}
 use Rattle.sj_plain.specs.declared.course.Course.{Course}
-use Rattle.sj_plain.specs.Kept.{file_kept}
+use Rattle.sj_plain.specs.SharedFile.{file_kept}
 use Rattle.sj_plain.specs.Opened.{world_with}
 use Rattle.sj_plain.specs.Stepping.{sessions_at}
 

@@ -11,7 +11,7 @@ use Rattle.sj_table.specs.declared.table.Table.{Table}
 use Rattle.sj_table.specs.Spots.{place_in, start_in}
 use Rattle.sj_plain.specs.declared.ahead.Ahead.{Ahead}
 use Rattle.sj_plain.specs.declared.ahead.Ahead.TheVariants.{At, Against, Own}
-use Rattle.sj_plain.specs.declared.ends.End.{End}
+use Rattle.sj_plain.specs.declared.ends.PlainEnd.{PlainEnd}
 use Rattle.sj_plain.specs.declared.ends.Session.{Session}
 
 -- the table starts at the bodies of these protocols
@@ -29,7 +29,7 @@ ahead_of t (Against s) = dual_of (place_in t s)
 ahead_of t (Own p) = p
 
 -- an end, apart from how it lies in memory
-abbrev pub end_view : Table → End → EndAt
+abbrev pub end_view : Table → PlainEnd → EndAt
 end_view t e = record { place = ahead_of t e.place; sent = e.sent.items; takers = e.takers.items; hops = e.hops }
 
 -- a session, apart from how it lies in memory

@@ -2,7 +2,7 @@ pub mod Course
 pub mod Ends
 pub mod Finish
 pub mod Finishing
-pub mod Kept
+pub mod SharedFile
 pub mod Moves
 pub mod Opened
 pub mod Plain

@@ -8,7 +8,7 @@ ghost use Rattle.sj_lang.specs.PlaceCode.{coded_place};
 ghost use Rattle.sj_plain.specs.Ends.{StartsAt, connected_session};
 ghost use Rattle.sj_lang.specs.Limits.{limits};
 ghost use Rattle.sj_plain.specs.Finish.{ActsOut, IsFinished, IsRound};
-ghost use Rattle.sj_plain.specs.Kept.{without_words};
+ghost use Rattle.sj_plain.specs.SharedFile.{without_words};
 ghost use Rattle.sj_machine.specs.Sound.{program_at};
 ghost use Rattle.sj_plain.specs.Rounds.{Shows, steps_left};
 ghost use Rattle.sj_plain.specs.Stepping.{sessions_at};
@@ -20,7 +20,7 @@ ghost use Rattle.sj_semantics.specs.declared.Want.TheVariants.{Ended};
 
 use crate::Halt;
 use crate::ends::Session;
-use crate::kept::Kept;
+use crate::shared_file::SharedFile;
 use crate::progress::step;
 use sj_base::NoMemory;
 use sj_check::Accepted;
@@ -35,7 +35,7 @@ use std::alloc::Global;
 #[derive(Drop)]
 pub struct Course {
     pub alloc: Global,
-    pub kept: Kept,
+    pub kept: SharedFile,
     pub table: Table,
     pub machines: Vec<Machine>,
     pub sessions: Vec<Session>,
@@ -57,7 +57,7 @@ impl Course {
         ensures world { IfOk result (λ c. world_in c ≡ start_of (file_of (held accepted.now))) }
         ensures ordered { IfOk result IsOrdered }
     {
-        let kept = Kept::of(accepted)?;
+        let kept = SharedFile::of(accepted)?;
         let table = accepted.table().copied()?;
         let file = accepted.file();
         let machines = first_machines(alloc, file)?;

@@ -16,19 +16,19 @@ use std::alloc::Global;
 
 /// One end of a session.
 #[derive(Drop)]
-pub(crate) struct End {
+pub(crate) struct PlainEnd {
     place: Ahead,
     sent: Vec<Passed>,
     takers: Vec<u16>,
     hops: u8,
 }
 
-impl End {
+impl PlainEnd {
     // The end before any act.
-    fn at(alloc: Global, place: Ahead) -> End
+    fn at(alloc: Global, place: Ahead) -> PlainEnd
         ensures { (t : Table) → end_view t result ≡ fresh (ahead_of t place) }
     {
-        End {
+        PlainEnd {
             place,
             sent: Vec::new(alloc),
             takers: Vec::new(alloc),
@@ -37,10 +37,10 @@ impl End {
     }
 
     // The end that no session has.
-    fn nowhere(alloc: Global, table: &Table) -> End
+    fn nowhere(alloc: Global, table: &Table) -> PlainEnd
         ensures { end_view table.now result ≡ nowhere }
     {
-        End::at(alloc, Ahead::At(table.done()))
+        PlainEnd::at(alloc, Ahead::At(table.done()))
     }
 
     fn send(&mut self, alloc: Global, table: &Table, passed: Passed) -> Result<(), NoMemory>
@@ -69,8 +69,8 @@ impl End {
 /// A session: the end of side 0, and the end of side 1.
 #[derive(Drop)]
 pub struct Session {
-    first: End,
-    second: End,
+    first: PlainEnd,
+    second: PlainEnd,
 }
 
 impl Session {
@@ -81,8 +81,8 @@ impl Session {
         let first = table.start(connect.first.protocol);
         let second = table.start(connect.second.protocol);
         Session {
-            first: End::at(alloc, Ahead::At(first)),
-            second: End::at(alloc, Ahead::At(second)),
+            first: PlainEnd::at(alloc, Ahead::At(first)),
+            second: PlainEnd::at(alloc, Ahead::At(second)),
         }
     }
 
@@ -91,12 +91,12 @@ impl Session {
         ensures { session_at table.now result ≡ unopened }
     {
         Session {
-            first: End::nowhere(alloc, table),
-            second: End::nowhere(alloc, table),
+            first: PlainEnd::nowhere(alloc, table),
+            second: PlainEnd::nowhere(alloc, table),
         }
     }
 
-    fn end(&self, side: u8) -> &End
+    fn end(&self, side: u8) -> &PlainEnd
         ensures { (t : Table) → end_view t result.now ≡ end_on side (session_at t self.now) }
     {
         if side == 0 { &self.first } else { &self.second }

@@ -5,7 +5,7 @@ ghost use Rattle.sj_check.specs.Held.{file_in as held};
 ghost use Rattle.sj_lang.specs.FileView.{file_of};
 ghost use Rattle.sj_plain.specs.Finish.{IsFinished};
 ghost use Rattle.sj_plain.specs.Finishing.{BreaksOff, GoesBy};
-ghost use Rattle.sj_plain.specs.Kept.{without_words};
+ghost use Rattle.sj_plain.specs.SharedFile.{without_words};
 ghost use Rattle.sj_plain.specs.Rounds.{is_waiting};
 ghost use Rattle.sj_semantics.specs.Ends.{other_end};
 ghost use Rattle.sj_semantics.specs.Run.{IsRun, end_of};

@@ -11,7 +11,7 @@ use Rattle.sj_grammar.specs.declared.tokens.What.{What}
 use Rattle.sj_lang.specs.Limits.{Limits, limits}
 use Rattle.sj_grammar.specs.Lexis.{Ahead, token, next_of}
 use Rattle.sj_grammar.specs.Names.{is_name, is_reserved}
-use Rattle.sj_grammar.specs.Reading.{Reading, line_at, before_next}
+use Rattle.sj_grammar.specs.Reading.{Reading, line_number, before_next}
 use Rattle.sj_grammar.specs.Tables.{Spelling, IsNamed, entry_of}
 use Rattle.sj_grammar.specs.Positions.{Pieces, At, Takes, plain, first_on, all_plain, spellings}
 use Rattle.sj_grammar.specs.Protocols.{body_pieces, IsBody}
@@ -107,7 +107,7 @@ module _ (r q : Reading) (names : Names) (k : ℕ) (room : k < 256) (first : Tak
             (in_file limits n (item_count p) (body ∷ []) (more 0 ∷ []) after _ (body_run limits word p n [] whole.1))
             (skip file_layer limits (item_count p) (standing v last) (proto (more 0)) after f refl passes (st (item_count p))))
 
-        pub def_gives : (w : Reading) (line : ℕ) → TakesText v (codes "}") w → line ≡ line_at (before_next r (next_of r.ahead))
+        pub def_gives : (w : Reading) (line : ℕ) → TakesText v (codes "}") w → line ≡ line_number (before_next r (next_of r.ahead))
             → GivesOnLines (standing r names) (standing w last) (λ names. protocol_pieces names.word (record { line = line; name = l; body = p })) (λ names. IsProtocolDef limits names (record { line = line; name = l; body = p }))
         def_gives w line closed on =
             let whole = lines_one (standing v last) (standing w last) (plain (codes "}")) (record { taken = exits.plain v w last (codes "}") refl refl closed; line = tt }) in
@@ -121,4 +121,4 @@ module _ (r q : Reading) (names : Names) (k : ℕ) (room : k < 256) (first : Tak
             (λ names. protocol_pieces names.word (record { line = line; name = l; body = p })) (λ names. IsNamed limits names.word l × (IsBody limits names.word p × Unit {0})) (λ names. IsProtocolDef limits names (record { line = line; name = l; body = p }))
             (λ names. refl) (λ names h. record { name = h.0; body = h.1.0 })
             (Lines-cons (standing r names) (standing q names) (standing w last) (first_on line (codes "protocol")) (λ names. plain (names.word l) ∷ plain (codes "{") ∷ (all_plain (body_pieces names.word p) ++ plain (codes "}") ∷ []))
-            (λ names. IsNamed limits names.word l × (IsBody limits names.word p × Unit {0})) (record { taken = took_word; line = on ∙ ap (λ (x : Ahead). line_at (before_next r x)) took_word.token }) called)
+            (λ names. IsNamed limits names.word l × (IsBody limits names.word p × Unit {0})) (record { taken = took_word; line = on ∙ ap (λ (x : Ahead). line_number (before_next r x)) took_word.token }) called)

@@ -11,7 +11,7 @@ use Rattle.sj_grammar.specs.declared.refusal.ParseRefusal.{ParseRefusal}
 use Rattle.sj_grammar.specs.declared.refusal.ParseRefusal.TheVariants as refusals
 use Rattle.sj_lang.specs.Limits.{limits}
 use Rattle.sj_grammar.specs.Lexis.{Ahead, at_end, bad, token, next_of}
-use Rattle.sj_grammar.specs.Reading.{before_next, fault_at, line_at, passed}
+use Rattle.sj_grammar.specs.Reading.{before_next, fault_at, line_number, passed}
 use Rattle.sj_grammar.specs.Tables.{Spelling}
 use Rattle.sj_grammar.specs.Positions.{Pieces, Piece, At, Takes, Begins, BeginsOnLines, TakesPiece, past, spellings}
 use Rattle.sj_grammar.specs.Protocols.{dotted}
@@ -88,7 +88,7 @@ module _ (a b : At) (ps : List ProtocolAt) (is : AreProtocols a ps b) where
 one_line : (a m k : At) (l j : ℕ) (s : List ℕ) → TakesPiece a (record { spelled = s; line = Some l }) m → TakesPiece a (record { spelled = s; line = Some j }) k → l ≡ j
 one_line a m k l j s h g =
     let rests : h.taken.rest ≡ g.taken.rest = cc (sym h.taken.token ∙ g.taken.token) in
-    h.line ∙ ap (λ r. line_at (passed a.text (s ++ r))) rests ∙ sym g.line
+    h.line ∙ ap (λ r. line_number (passed a.text (s ++ r))) rests ∙ sym g.line
 
 OnLines-split : (x y : List Piece) (a b : At) → BeginsOnLines a (x ++ y) b → (m : At) × BeginsOnLines a x m × BeginsOnLines m y b
 OnLines-split [] y a b h = (a, refl, h)

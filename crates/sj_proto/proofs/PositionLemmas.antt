@@ -12,7 +12,7 @@ use Rattle.sj_proto.specs.declared.scan.Found.TheVariants as found
 use Rattle.sj_proto.specs.Found.{found_of, spot_of, IsAhead, IsPosition}
 use Rattle.sj_grammar.specs.Refusals.{first_rule, fault_next}
 use Rattle.sj_grammar.specs.Asked.{TakesText}
-use Rattle.sj_grammar.specs.Reading.{Reading, passed, before_next, token_at, answer_to, reading_after, line_at, column_at}
+use Rattle.sj_grammar.specs.Reading.{Reading, passed, before_next, token_at, answer_to, reading_after, line_number, column_number}
 
 abbrev pub reading_at : List ℕ → ℕ → Reading
 reading_at xs at = record { before = take at xs; ahead = drop at xs }
@@ -34,8 +34,8 @@ piece_and_rest xs from to later =
 pub bad_answer : (xs : List ℕ) (at to : ℕ) (rule : Rule) (l c : ℕ) → at ≤ to → to ≤ length xs → IsPosition xs to l c
     → ◌≡◌ {A = Result Token Fault} (Err (record { rule = rule; line = l; column = c })) (answer_to (reading_at xs at) (bad rule (drop to xs)))
 bad_answer xs at to rule l c later within position =
-    let line : l ≡ line_at (passed (reading_at xs at) (drop to xs)) = position.line ∙ ap line_at (sym (passed_is xs at to later within)) in
-    let column : c ≡ column_at (passed (reading_at xs at) (drop to xs)) = position.column ∙ ap column_at (sym (passed_is xs at to later within)) in
+    let line : l ≡ line_number (passed (reading_at xs at) (drop to xs)) = position.line ∙ ap line_number (sym (passed_is xs at to later within)) in
+    let column : c ≡ column_number (passed (reading_at xs at) (drop to xs)) = position.column ∙ ap column_number (sym (passed_is xs at to later within)) in
     λ i. Err (record { rule = rule; line = line i; column = column i })
 
 pub piece_answer : (xs : List ℕ) (at from to : ℕ) (what : What) (l c : ℕ) → at ≤ from → from < to → to ≤ length xs → IsPosition xs from l c
@@ -74,8 +74,8 @@ pub fault_found : (xs : List ℕ) (at : ℕ) (rule : Rule) (f : Found) (x : Ahea
     → ◌≡◌ {A = Fault} (record { rule = first_rule rule (found_of xs f); line = l; column = c }) (fault_next r rule x)
 fault_found xs at rule f x r l c same next within ahead position =
     let before : take (spot_of xs f) xs ≡ before_next r x = before_is xs at f within ahead ∙ (λ i. before_next (same i) (next i)) in
-    let line : l ≡ line_at (before_next r x) = position.line ∙ ap line_at before in
-    let column : c ≡ column_at (before_next r x) = position.column ∙ ap column_at before in
+    let line : l ≡ line_number (before_next r x) = position.line ∙ ap line_number before in
+    let column : c ≡ column_number (before_next r x) = position.column ∙ ap column_number before in
     λ i. record { rule = first_rule rule (next i); line = line i; column = column i }
 
 pub taken_is : (xs : List ℕ) (at from to : ℕ) (what : What) (s : List ℕ) (r : Reading) → reading_at xs at ≡ r → found_of xs (found.Piece what from to) ≡ next_of (drop at xs)

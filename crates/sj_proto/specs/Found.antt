@@ -2,7 +2,7 @@
 use Rattle.std.specs.Prelude.{◌≡◌, ℕ, ◌+◌, ◌-◌, ◌≤◌, ◌<◌, List, length, take, drop, Option, Some, None, if◌then◌else◌, nat_lt}
 use Rattle.std.specs.Str.Parse.{digits_value}
 use Rattle.sj_grammar.specs.Lexis.{Ahead, at_end, bad, token, most}
-use Rattle.sj_grammar.specs.Reading.{line_at, column_at}
+use Rattle.sj_grammar.specs.Reading.{line_number, column_number}
 use Rattle.sj_proto.specs.declared.scan.Found.{Found}
 use Rattle.sj_proto.specs.declared.scan.Found.TheVariants as found
 use Rattle.sj_lang.specs.Limits.{file_limit}
@@ -32,7 +32,7 @@ value_of ds = if nat_lt most (digits_value 10 ds) then None else Some (digits_va
 pub record IsPosition (bytes : List ℕ) (at l c : ℕ) : Type 0 where
   pub within : at ≤ length bytes
   pub short : length bytes ≤ file_limit
-  pub line : l ≡ line_at (take at bytes)
-  pub column : c ≡ column_at (take at bytes)
+  pub line : l ≡ line_number (take at bytes)
+  pub column : c ≡ column_number (take at bytes)
   pub few_lines : l ≤ at + 1
   pub few_columns : c ≤ at + 1

@@ -2,7 +2,7 @@
 ghost use Rattle.std.specs.Prelude.{◌≡◌, ◌≢◌, ◌+◌, ◌<◌, ◌≤◌, [], length, IsTrue, Some, OnOk, IfErr, IfOk, false};
 ghost use Rattle.sj_grammar.specs.Lexis.{next_of, at_end};
 ghost use Rattle.sj_grammar.specs.Names.{is_name};
-ghost use Rattle.sj_grammar.specs.Reading.{answer_to, reading_after, line_at, before_next};
+ghost use Rattle.sj_grammar.specs.Reading.{answer_to, reading_after, line_number, before_next};
 ghost use Rattle.sj_grammar.specs.Refusals.{fault_next};
 ghost use Rattle.sj_proto.specs.Onward.{Advances};
 ghost use Rattle.sj_proto.specs.Protocols.{IsReadable, IsUnreadable};
@@ -147,7 +147,7 @@ impl<'a> Tokens<'a> {
 
     /// The line of the next token, of the fault that stands in its place, or of the end.
     pub fn line(&self) -> u32
-        ensures { result ≡ line_at (before_next self.now (next_of self.now.ahead)) }
+        ensures { result ≡ line_number (before_next self.now (next_of self.now.ahead)) }
     {
         self.fault(Rule::P1).line
     }

@@ -7,10 +7,10 @@ use Rattle.std.proofs.lemmas.List.{length-map, map-append}
 use Rattle.sj_lang.specs.Place.{Place, done}
 use Rattle.sj_lang.specs.FileAt.{FileAt}
 use Rattle.sj_acceptance.specs.Accepted.{IsAccepted}
-use Rattle.sj_plain.specs.Kept.{without_words}
+use Rattle.sj_plain.specs.SharedFile.{without_words}
 use Rattle.sj_semantics.specs.Program.{Program}
 use Rattle.sj_table.specs.Spots.{place_in}
-use Rattle.sj_end.specs.declared.wire.Frame.{Frame}
+use Rattle.sj_end.specs.declared.frames.Frame.{Frame}
 use Rattle.sj_end.specs.Views.{frame_at}
 use Rattle.sj_rules.specs.Frames.{FrameAt, IsNoGive}
 use Rattle.sj_rules.specs.History.{IsHistory, IsLog}
@@ -27,7 +27,7 @@ use Rattle.sj_joined_lemmas.proofs.WholeLemmas.{is_whole}
 use Rattle.sj_joined_lemmas.proofs.WorkLemmas.{list_of, told_by}
 use Rattle.sj_lane.specs.declared.lane.OutLane.{Ghosts as OutLane}
 use Rattle.sj_lane.specs.declared.lane.InLane.{Ghosts as InLane}
-use Rattle.sj_lane.specs.Square.{Kept, in_in, out_in}
+use Rattle.sj_lane.specs.Square.{KeepsLists, in_in, out_in}
 use Rattle.sj_lane.specs.Told.{told_frame, told_list}
 use Rattle.sj_lane.proofs.BackLemmas.{slice_get_some as there_is}
 use Rattle.sj_node.specs.declared.node.Node.{Node}
@@ -74,7 +74,7 @@ box_told m q = told_all_with (place_in (table_of m)) (waiting_in (outs_of m) q)
 
 module _ {O I : Type 0} (outward : OutLane O) (inward : InLane I) (joined : O → I → Type 0) (file : FileAt) (accepted : IsAccepted file)
     (looks : ℕ) (workers : List (Worker O I)) (all : AllWorked outward inward joined file looks true workers) (links : LinksAt)
-    (keeps : Kept outward.pushed inward.popped outward.vain inward.vain (map lanes_of workers) links.sent links.got links.vain_out links.vain_in)
+    (keeps : KeepsLists outward.pushed inward.popped outward.vain inward.vain (map lanes_of workers) links.sent links.got links.vain_out links.vain_in)
     (lines : List LineAt) (joins : IsJoined (logs_in workers) lines)
     (remembers : NoneStopped workers stops.NoMemory) (faultless : NoneStopped workers stops.Fault) (over : AreOver file workers)
     (bare after : List Node) (logless : AreLogless workers bare) (handed : AreHandedIn outward.pushed inward.popped (map lanes_of workers) bare after) where

@@ -11,7 +11,7 @@ use Rattle.sj_joined_lemmas.proofs.HistoryLemmas.{no_misfit}
 use Rattle.sj_lang.specs.Place.{Place}
 use Rattle.sj_lang.specs.FileAt.{FileAt}
 use Rattle.sj_acceptance.specs.Accepted.{IsAccepted}
-use Rattle.sj_plain.specs.Kept.{without_words}
+use Rattle.sj_plain.specs.SharedFile.{without_words}
 use Rattle.sj_semantics.specs.Program.{Program}
 use Rattle.sj_rules.specs.History.{IsFirstMisfit, IsHistory, due}
 use Rattle.sj_rules.specs.Log.{IsJoined, LineAt}

@@ -16,7 +16,7 @@ use Rattle.sj_rules.specs.Mapped.{main_with}
 use Rattle.sj_rules.specs.Record.{BodyAt, Carry, Fin, Claim, Signal, Ack, Give, Open, HeldAt, MainAt, Held, Closed, Expected}
 use Rattle.sj_node.specs.declared.node.Node.{Node}
 use Rattle.sj_node.specs.declared.refusal.Halt.TheVariants as halts
-use Rattle.sj_node.specs.Node.{node_at, stop_of, wants_of}
+use Rattle.sj_node.specs.Node.{node_at, node_halt, wants_of}
 use Rattle.sj_node.specs.Play.{want_with}
 use Rattle.sj_node.specs.Slots.{main_at}
 use Rattle.sj_run.proofs.BareHeldLemmas.{HopsFit}
@@ -46,7 +46,7 @@ few_hops true e = refl
 few_hops false e = absurd (cc e)
 
 -- where nothing stops a node, the end that it delegates was delegated fewer than 100 times
-pub hops_fit : (n : Node) (starts : ℕ → Place) → stop_of n ≡ None → HopsFit (node_at n) (want_with starts (wants_of n))
+pub hops_fit : (n : Node) (starts : ℕ → Place) → node_halt n ≡ None → HopsFit (node_at n) (want_with starts (wants_of n))
 hops_fit n starts free = by (wants_of n) free
   where
     by : (want : Want) → Rattle.sj_node.specs.Halts.stop_by (Rattle.sj_node.specs.Slots.mains_in n.mains.items) n.requests (Rattle.sj_node.specs.Node.offers_of n) (Rattle.sj_node.specs.Node.steps_of n) want ≡ None → HopsFit (node_at n) (want_with starts want)

@@ -3,13 +3,13 @@ use Rattle.std.proofs.Common.{◌≡◌, ◌∙◌, ℕ, ◌+◌, ◌<◌, ◌�
 use Rattle.std.specs.Prelude.{slice_get}
 use Rattle.std.proofs.lemmas.Bool.Decides.{nat_tests}
 use Rattle.sj_lang.specs.Place.{Place}
-use Rattle.sj_end.specs.declared.wire.Frame.{Frame}
+use Rattle.sj_end.specs.declared.frames.Frame.{Frame}
 use Rattle.sj_end.specs.Views.{frame_at}
 use Rattle.sj_rules.specs.Frames.{FrameAt}
 use Rattle.sj_lane.specs.declared.lane.OutLane.{Ghosts as OutLane}
 use Rattle.sj_lane.specs.declared.lane.InLane.{Ghosts as InLane}
 use Rattle.sj_lane.specs.declared.lane.Lanes.{Lanes}
-use Rattle.sj_lane.specs.Square.{AllJoined, HasFault, IsRest, IsSquare, Kept, SameIn, SameLists, SameOut, in_at, out_at, out_in}
+use Rattle.sj_lane.specs.Square.{AllJoined, HasFault, IsRest, IsSquare, KeepsLists, SameIn, SameLists, SameOut, in_at, out_at, out_in}
 use Rattle.sj_lane.proofs.BackLemmas.{square_out}
 use Rattle.sj_lane.proofs.CarryingLemmas.{lists_later, lists_same}
 use Rattle.sj_node.specs.declared.node.Node.{Node}
@@ -122,7 +122,7 @@ module _ {O I : Type 0} (pushed : O → Option (List (FrameAt Place))) (popped :
 
     -- what links keep of them then they keep of them
     pub kept_back : IsSquare K → IsSquare L → (sent got : ℕ → ℕ → List (FrameAt Place)) (vain_out vain_in : ℕ → ℕ → ℕ)
-        → Kept pushed popped vain_o vain_i L sent got vain_out vain_in → Kept pushed popped vain_o vain_i K sent got vain_out vain_in
+        → KeepsLists pushed popped vain_o vain_i L sent got vain_out vain_in → KeepsLists pushed popped vain_o vain_i K sent got vain_out vain_in
     kept_back k l sent got vain_out vain_in kept =
         let as_many = same_count k l in
         record {
@@ -211,7 +211,7 @@ module _ {O I : Type 0} (outward : OutLane O) (inward : InLane I) (joined : O �
 
   -- of the lanes that stay from K on, which are those
   pub kept_of : (K M L : List (Lanes O I)) → K ≡ M → IsSquare M → LanesStay outward inward joined K L → (sent got : ℕ → ℕ → List (FrameAt Place)) (vain_out vain_in : ℕ → ℕ → ℕ)
-      → Kept outward.pushed inward.popped outward.vain inward.vain L sent got vain_out vain_in → Kept outward.pushed inward.popped outward.vain inward.vain M sent got vain_out vain_in
+      → KeepsLists outward.pushed inward.popped outward.vain inward.vain L sent got vain_out vain_in → KeepsLists outward.pushed inward.popped outward.vain inward.vain M sent got vain_out vain_in
   kept_of K M L is square stay sent got vain_out vain_in kept =
       kept_back outward.pushed inward.popped outward.vain inward.vain M L
       (subst (λ (N : List (Lanes O I)). SameLists outward.pushed inward.popped outward.vain inward.vain N L) is stay.lists) square stay.square sent got vain_out vain_in kept

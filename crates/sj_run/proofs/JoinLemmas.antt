@@ -23,7 +23,7 @@ use Rattle.sj_rules_laws.proofs.LimitLemmas.{core_run_clocks}
 use Rattle.sj_rules_laws.proofs.ShortRunLemmas.{runs_are_short}
 use Rattle.sj_lane.specs.declared.lane.OutLane.{Ghosts as OutLane}
 use Rattle.sj_lane.specs.declared.lane.InLane.{Ghosts as InLane}
-use Rattle.sj_lane.specs.Square.{Kept}
+use Rattle.sj_lane.specs.Square.{KeepsLists}
 use Rattle.sj_node.specs.Node.{clock_of, node_at}
 use Rattle.sj_work.specs.declared.worker.Stop.{Stop}
 use Rattle.sj_work.specs.declared.worker.Stop.TheVariants as stops
@@ -42,7 +42,7 @@ use Rattle.sj_lane.proofs.BackLemmas.{slice_get_some as there_is}
 
 module _ {O I : Type 0} (outward : OutLane O) (inward : InLane I) (joined : O → I → Type 0) (file : FileAt) (accepted : IsAccepted file)
     (looks : ℕ) (workers : List (Worker O I)) (all : AllWorked outward inward joined file looks true workers) (links : LinksAt)
-    (keeps : Kept outward.pushed inward.popped outward.vain inward.vain (map lanes_of workers) links.sent links.got links.vain_out links.vain_in) where
+    (keeps : KeepsLists outward.pushed inward.popped outward.vain inward.vain (map lanes_of workers) links.sent links.got links.vain_out links.vain_in) where
   abbrev n : ℕ
   n = length file.parties
 

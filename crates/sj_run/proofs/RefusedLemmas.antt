@@ -32,7 +32,7 @@ use Rattle.sj_rules_laws.proofs.LimitLemmas.{core_run_clocks, core_run_few}
 use Rattle.sj_rules_laws.proofs.PlayLemmas.{acts_same}
 use Rattle.sj_rules_laws.proofs.ShortRunLemmas.{runs_are_short}
 use Rattle.sj_node.specs.declared.node.Node.{Node}
-use Rattle.sj_node.specs.Node.{act_of, clock_of, due_if, has_room, is_below_count, log_of, node_at, note_for, play_here, stop_of, wants_of}
+use Rattle.sj_node.specs.Node.{act_of, clock_of, due_if, has_room, is_below_count, log_of, node_at, note_for, play_here, node_halt, wants_of}
 use Rattle.sj_node.specs.Reading.{party_of}
 use Rattle.sj_core.proofs.LawLemmas.{max_picks}
 use Rattle.sj_work.specs.Causes.{IsUnfit, lost_line, own_line}
@@ -109,7 +109,7 @@ module _ (file : FileAt) (accepted : IsAccepted file) (p : ℕ) (left : LeftAt) 
   room wants.Ended = refl
 
   -- an act that the rules don't have isn't one there
-  no_act : stop_of n ≡ None → act_of n ≡ None → (v : WorldAt Place Program) → happens own max core p Act ≡ Some v → ⊥
+  no_act : node_halt n ≡ None → act_of n ≡ None → (v : WorldAt Place Program) → happens own max core p Act ≡ Some v → ⊥
   no_act free none v h =
       let a = acted own max core p v h in
       let there : acts (file_play file) p (core.nodes p) ≡ Some a.left = agree core (map turn_of lines, run) ∙ a.row in

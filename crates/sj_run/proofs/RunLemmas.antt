@@ -16,7 +16,7 @@ use Rattle.sj_joined_lemmas.proofs.HistoryLemmas.{same_world}
 use Rattle.sj_joined_lemmas.proofs.WorkerLemmas.{clocks_rise}
 use Rattle.sj_lane.specs.declared.lane.OutLane.{Ghosts as OutLane}
 use Rattle.sj_lane.specs.declared.lane.InLane.{Ghosts as InLane}
-use Rattle.sj_lane.specs.Square.{HasFault, Kept, in_in, out_in}
+use Rattle.sj_lane.specs.Square.{HasFault, KeepsLists, in_in, out_in}
 use Rattle.sj_lane.specs.Told.{Rose}
 use Rattle.sj_node.specs.Node.{log_of, node_at}
 use Rattle.sj_work.specs.declared.worker.Stop.{Stop}
@@ -67,7 +67,7 @@ module _ {O I : Type 0} (outward : OutLane O) (inward : InLane I) (joined : O �
 
 module _ {O I : Type 0} (outward : OutLane O) (inward : InLane I) (joined : O → I → Type 0) (file : FileAt) (accepted : IsAccepted file)
     (looks : ℕ) (workers : List (Worker O I)) (all : AllWorked outward inward joined file looks true workers) (links : LinksAt)
-    (keeps : Kept outward.pushed inward.popped outward.vain inward.vain (map lanes_of workers) links.sent links.got links.vain_out links.vain_in)
+    (keeps : KeepsLists outward.pushed inward.popped outward.vain inward.vain (map lanes_of workers) links.sent links.got links.vain_out links.vain_in)
     (lines : List LineAt) (joins : IsJoined (logs_in workers) lines) where
   abbrev party : ℕ → Rattle.sj_rules.specs.Joined.WorkerAt Place Program
   party = team outward inward joined file accepted looks workers all links keeps

@@ -5,7 +5,7 @@ use Rattle.std.proofs.Common.{◌≡◌, ℕ, max, Bool, true, List, map, sym, s
 use Rattle.std.specs.Global.{Vec}
 use Rattle.sj_lang.specs.FileAt.{FileAt}
 use Rattle.sj_acceptance.specs.Accepted.{IsAccepted}
-use Rattle.sj_plain.specs.Kept.{without_words}
+use Rattle.sj_plain.specs.SharedFile.{without_words}
 use Rattle.sj_end.specs.declared.note.Entry.{Entry}
 use Rattle.sj_rules.specs.History.{IsHistory}
 use Rattle.sj_rules.specs.Log.{IsJoined, LineAt}
@@ -15,7 +15,7 @@ use Rattle.sj_semantics.specs.Program.{Program}
 use Rattle.sj_lane.specs.declared.lane.OutLane.{Ghosts as OutLane}
 use Rattle.sj_lane.specs.declared.lane.InLane.{Ghosts as InLane}
 use Rattle.sj_lane.specs.declared.lane.Lanes.{Lanes}
-use Rattle.sj_lane.specs.Square.{Kept}
+use Rattle.sj_lane.specs.Square.{KeepsLists}
 use Rattle.sj_node.specs.declared.node.Node.{Node}
 use Rattle.sj_core.specs.Given.{given_log}
 use Rattle.sj_core.specs.Nodes.{AreSeated, world_by}
@@ -34,12 +34,12 @@ use Rattle.sj_run.proofs.RunLemmas.{joins_below, told_fits, told_history, told_s
 module _ {O I : Type 0} (outward : OutLane O) (inward : InLane I) (joined : O → I → Type 0) (file : FileAt) (accepted : IsAccepted file) (looks : ℕ) (tells : Bool) (telling : tells ≡ true)
     (workers : List (Worker O I)) (worked : AllWorked outward inward joined file looks tells workers)
     (lanes given : List (Lanes O I)) (apart : lanes ≡ map lanes_of workers) (stay : LanesStay outward inward joined lanes given)
-    (links : LinksAt) (keeps : Kept outward.pushed inward.popped outward.vain inward.vain given links.sent links.got links.vain_out links.vain_in)
+    (links : LinksAt) (keeps : KeepsLists outward.pushed inward.popped outward.vain inward.vain given links.sent links.got links.vain_out links.vain_in)
     (logs : List (Vec Entry)) (are : AreLogs workers logs) (lines : List LineAt) (joins : IsJoined (given_log logs) lines) where
   abbrev told : AllWorked outward inward joined file looks true workers
   told = subst (λ (b : Bool). AllWorked outward inward joined file looks b workers) telling worked
 
-  abbrev kept : Kept outward.pushed inward.popped outward.vain inward.vain (map lanes_of workers) links.sent links.got links.vain_out links.vain_in
+  abbrev kept : KeepsLists outward.pushed inward.popped outward.vain inward.vain (map lanes_of workers) links.sent links.got links.vain_out links.vain_in
   kept = kept_of outward inward joined lanes (map lanes_of workers) given apart worked.square stay links.sent links.got links.vain_out links.vain_in keeps
 
   abbrev own : IsJoined (logs_in workers) lines

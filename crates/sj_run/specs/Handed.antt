@@ -2,7 +2,7 @@
 use Rattle.std.specs.Prelude.{◌≡◌, ℕ, ◌<◌, ◌≤◌, List, [], ◌++◌, map, length, slice_get, Option, Some}
 use Rattle.sj_lang.specs.FileAt.{FileAt, body_named}
 use Rattle.sj_lang.specs.Place.{Place}
-use Rattle.sj_end.specs.declared.wire.Frame.{Frame}
+use Rattle.sj_end.specs.declared.frames.Frame.{Frame}
 use Rattle.sj_end.specs.Views.{frame_at}
 use Rattle.sj_lane.specs.declared.lane.Lanes.{Lanes}
 use Rattle.sj_lane.specs.declared.lane.OutLane.{Ghosts as OutLane}

@@ -5,7 +5,7 @@ ghost use Rattle.sj_core.specs.World.{history_of, kept_file, party_count, world_
 ghost use Rattle.sj_end.specs.Lines.{event_at, line_at};
 ghost use Rattle.sj_lane.specs.Told.{Rose};
 ghost use Rattle.sj_lang.specs.FileView.{file_of};
-ghost use Rattle.sj_plain.specs.Kept.{without_words};
+ghost use Rattle.sj_plain.specs.SharedFile.{without_words};
 ghost use Rattle.sj_rules.specs.History.{IsHistory, due};
 ghost use Rattle.sj_rules.specs.Party.{play_of};
 ghost use Rattle.sj_run.specs.Damage.{IsDamaged};

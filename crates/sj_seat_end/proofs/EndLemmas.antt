@@ -4,7 +4,7 @@ use Rattle.sj_acceptance.specs.Accepted.{IsAccepted}
 use Rattle.sj_lang.specs.FileAt.{FileAt}
 use Rattle.sj_lang.specs.FileView.{file_of}
 use Rattle.sj_lang.specs.declared.file.File.{File}
-use Rattle.sj_plain.specs.Kept.{without_words}
+use Rattle.sj_plain.specs.SharedFile.{without_words}
 use Rattle.sj_rules.specs.History.{IsQuietAmong}
 use Rattle.sj_seat_end.specs.Told.{IsAtEnd, IsToldBy}
 use Rattle.sj_seat_laws.specs.SeatedPlay.{seated_play}

@@ -2,7 +2,7 @@
 use Rattle.std.proofs.Common.{◌≡◌, ℕ, [], List, Result, Ok, Err}
 use Rattle.std.specs.Prelude.{IfOk}
 use Rattle.sj_lang.specs.FileAt.{FileAt}
-use Rattle.sj_plain.specs.Kept.{without_words}
+use Rattle.sj_plain.specs.SharedFile.{without_words}
 use Rattle.sj_seat_end.specs.Told.{IsToldBy, IsToldUnder}
 use Rattle.sj_seat_end.specs.declared.telling.Told.{Told}
 use Rattle.sj_seat_texts.specs.Named.{IsNamedBy}

@@ -6,7 +6,7 @@ use Rattle.sj_lang.specs.FileAt.{FileAt}
 use Rattle.sj_log.specs.LogText.{SpellsLog, fault_of, log_read}
 use Rattle.sj_log.specs.declared.refusal.LogRefusal.{LogRefusal}
 use Rattle.sj_log.specs.declared.refusal.LogRefusal.TheVariants as logs
-use Rattle.sj_plain.specs.Kept.{without_words}
+use Rattle.sj_plain.specs.SharedFile.{without_words}
 use Rattle.sj_rules.specs.Log.{LineAt}
 use Rattle.sj_seats.specs.Calls.{OpenedAs}
 use Rattle.sj_seats.specs.Replaying.{IsStop}

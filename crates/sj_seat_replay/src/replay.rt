@@ -7,7 +7,7 @@ ghost use Rattle.sj_lang.specs.FileAt.{body_named};
 ghost use Rattle.sj_lang.specs.FileView.{file_of};
 ghost use Rattle.sj_lang.specs.Limits.{source_limit};
 ghost use Rattle.sj_log.specs.LogText.{SpellsLog};
-ghost use Rattle.sj_plain.specs.Kept.{without_words};
+ghost use Rattle.sj_plain.specs.SharedFile.{without_words};
 ghost use Rattle.sj_print.specs.Version.{IsVersion};
 ghost use Rattle.sj_seat.specs.Places.{CarriesPlaces};
 ghost use Rattle.sj_seat_replay.specs.Replays.{IsReplayRefused, IsTableRefused, IsTextRefused};

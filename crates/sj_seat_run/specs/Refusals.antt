@@ -7,7 +7,7 @@ use Rattle.sj_lane.specs.declared.lane.OutLane.{Ghosts as OutLane}
 use Rattle.sj_lane.specs.declared.lane.InLane.{Ghosts as InLane}
 use Rattle.sj_lang.specs.FileAt.{FileAt}
 use Rattle.sj_lang.specs.Place.{Place}
-use Rattle.sj_plain.specs.Kept.{without_words}
+use Rattle.sj_plain.specs.SharedFile.{without_words}
 use Rattle.sj_rules.specs.Log.{IsJoined, LineAt}
 use Rattle.sj_rules.specs.World.{WorldAt}
 use Rattle.sj_run.specs.Workers.{NoneStopped, SomeStopped, logs_in}

@@ -4,7 +4,7 @@
 
 ghost use Rattle.std.specs.Prelude.{◌≡◌};
 ghost use Rattle.sj_lang.specs.FileAt.{FileAt};
-ghost use Rattle.sj_plain.specs.Kept.{without_words};
+ghost use Rattle.sj_plain.specs.SharedFile.{without_words};
 ghost use Rattle.sj_seat_told.specs.Quiet.{IsQuietOf};
 ghost use Rattle.sj_seats.specs.declared.seated.SeatedWorld.{SeatedWorld};
 

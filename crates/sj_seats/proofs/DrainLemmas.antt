@@ -9,7 +9,7 @@ use Rattle.sj_lang.specs.Place.{Place}
 use Rattle.sj_node.specs.declared.node.Node.{Node}
 use Rattle.sj_node.specs.declared.refusal.Halt.{Halt}
 use Rattle.sj_node.specs.declared.refusal.Halt.TheVariants as halts
-use Rattle.sj_node.specs.Node.{spot_node, stop_of}
+use Rattle.sj_node.specs.Node.{spot_node, node_halt}
 use Rattle.sj_node.specs.Outs.{waiting_in}
 use Rattle.sj_node.specs.Reading.{outs_of}
 use Rattle.sj_rules.specs.Mapped.{frame_with}
@@ -63,7 +63,7 @@ pub nothing_waits : (c : PlayedWorld) (p q : ℕ) (giver : Node) → slice_get (
 nothing_waits c p q giver there none = ap (λ o. box_or o p) there ∙ ap (map (frame_with (place_in giver.table))) none
 
 -- a party that goes by the file, which something stops
-pub still_by : (c : PlayedWorld) (p : ℕ) (n : Node) (h : Halt) → slice_get (nodes_in c) p ≡ Some n → is_seat (chairs_in c) p ≡ false → stop_of n ≡ Some h → IsStill c p
+pub still_by : (c : PlayedWorld) (p : ℕ) (n : Node) (h : Halt) → slice_get (nodes_in c) p ≡ Some n → is_seat (chairs_in c) p ≡ false → node_halt n ≡ Some h → IsStill c p
 still_by c p n h there own stop =
     let w = world_by (file_in c) (nodes_in c) in
     let nobody : seats_by c.table (chairs_in c) no_calls p ≡ None = ap (option_map (seat_by c.table [])) (no_seat (chairs_in c) p own) in
@@ -73,7 +73,7 @@ still_by c p n h there own stop =
 
 -- whatever stops it
 pub still_where : (c : PlayedWorld) (p : ℕ) (n : Node) (h : Halt) → slice_get (nodes_in c) p ≡ Some n → is_seat (chairs_in c) p ≡ false → IsStop h
-    → (h ≡ halts.Ended → stop_of n ≡ Some halts.Ended) → (h ≡ halts.AtLimit → stop_of n ≡ Some halts.AtLimit) → (h ≡ halts.Waits → stop_of n ≡ Some halts.Waits) → IsStill c p
+    → (h ≡ halts.Ended → node_halt n ≡ Some halts.Ended) → (h ≡ halts.AtLimit → node_halt n ≡ Some halts.AtLimit) → (h ≡ halts.Waits → node_halt n ≡ Some halts.Waits) → IsStill c p
 still_where c p n h there own stop e l w = by h refl stop
   where
     by : (k : Halt) → h ≡ k → IsStop k → IsStill c p

@@ -10,7 +10,7 @@ use Rattle.sj_lang.specs.Place.{Place}
 use Rattle.sj_node.specs.declared.node.Node.{Node}
 use Rattle.sj_node.specs.Node.{node_at, outbox_of}
 use Rattle.sj_node.specs.Starting.{nothing_to_do}
-use Rattle.sj_plain.specs.Kept.{without_words}
+use Rattle.sj_plain.specs.SharedFile.{without_words}
 use Rattle.sj_rules.specs.Node.{NodeAt}
 use Rattle.sj_rules.specs.Start.{first_node}
 use Rattle.sj_seat.specs.Places.{CarriesPlaces}

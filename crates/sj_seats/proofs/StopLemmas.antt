@@ -10,7 +10,7 @@ use Rattle.sj_node.specs.declared.node.Node.{Node}
 use Rattle.sj_node.specs.declared.refusal.Halt.{Halt}
 use Rattle.sj_node.specs.declared.refusal.Halt.TheVariants as halts
 use Rattle.sj_node.specs.Halts.{hold_up, names_awaited, stop_by, stop_wanting}
-use Rattle.sj_node.specs.Node.{offers_of, requests_of, steps_of, stop_of, wants_of}
+use Rattle.sj_node.specs.Node.{offers_of, requests_of, steps_of, node_halt, wants_of}
 use Rattle.sj_node.specs.Slots.{mains_in}
 use Rattle.sj_core.specs.Refusals.{IsStop}
 
@@ -52,5 +52,5 @@ stop_is main requests offers steps (wants.Accept q from) h is = stop_wants main 
 stop_is main requests offers steps wants.Ended h is = stop_if true halts.Ended h tt is
 
 -- so it is for a node
-pub stops_so : (n : Node) (h : Halt) → stop_of n ≡ Some h → IsStop h
+pub stops_so : (n : Node) (h : Halt) → node_halt n ≡ Some h → IsStop h
 stops_so n h is = stop_is (mains_in n.mains.items) (requests_of n) (offers_of n) (steps_of n) (wants_of n) h is

@@ -35,7 +35,7 @@ use Rattle.sj_node.specs.declared.node.Node.{Node}
 use Rattle.sj_node.specs.declared.refusal.Halt.{Halt}
 use Rattle.sj_node.specs.declared.refusal.Halt.TheVariants as halts
 use Rattle.sj_node.specs.declared.slots.Main.{Main}
-use Rattle.sj_node.specs.Node.{act_of, has_room, is_below_count, node_at, play_here, spot_node, stop_of, wants_of}
+use Rattle.sj_node.specs.Node.{act_of, has_room, is_below_count, node_at, play_here, spot_node, node_halt, wants_of}
 use Rattle.sj_node.specs.Play.{HeadsAre, is_number, names_known, play_with}
 use Rattle.sj_node.specs.Slots.{look, main_at}
 use Rattle.sj_node.proofs.PlayLemmas.{acts_known, plays_file}
@@ -196,7 +196,7 @@ module _ (c : PlayedWorld) (past : List LineAt) (led : IsLedBy c past) (p : ℕ)
   no_act o is = sym own_act ∙ is
 
   -- where nothing stops it, an act of it is never unfit
-  pub never_unfit : stop_of n ≡ None → act_of n ≡ None → ⊥
+  pub never_unfit : node_halt n ≡ None → act_of n ≡ None → ⊥
   never_unfit free none =
       let halt : halt_of (seated_play file) (core.nodes p) ≡ None =
       ap (halt_of (seated_play file)) core_here ∙ same_halt ∙ unhalted file (place_in n.table) (spot_node n) free in
@@ -208,8 +208,8 @@ module _ (c : PlayedWorld) (past : List LineAt) (led : IsLedBy c past) (p : ℕ)
 
 -- a node that answers unfit
 module _ (c : PlayedWorld) (past : List LineAt) (led : IsLedBy c past) (p : ℕ) (n : Node) (there : slice_get (nodes_in c) p ≡ Some n) (own : is_seat (chairs_in c) p ≡ false)
-    (h : Halt) (ended : stop_of n ≡ Some halts.Ended → h ≡ halts.Ended) (limit : stop_of n ≡ Some halts.AtLimit → h ≡ halts.AtLimit) (waits : stop_of n ≡ Some halts.Waits → h ≡ halts.Waits) where
-  unfit_by : (o : Option Halt) → stop_of n ≡ o → act_of n ≡ None → h ≡ halts.Unfit → ⊥
+    (h : Halt) (ended : node_halt n ≡ Some halts.Ended → h ≡ halts.Ended) (limit : node_halt n ≡ Some halts.AtLimit → h ≡ halts.AtLimit) (waits : node_halt n ≡ Some halts.Waits → h ≡ halts.Waits) where
+  unfit_by : (o : Option Halt) → node_halt n ≡ o → act_of n ≡ None → h ≡ halts.Unfit → ⊥
   unfit_by None free none is = never_unfit c past led p n there own free none
   unfit_by (Some halts.Ended) stop none is = absurd (let e : halts.Ended ≡ halts.Unfit = sym (ended stop) ∙ is in cc e)
   unfit_by (Some halts.AtLimit) stop none is = absurd (let e : halts.AtLimit ≡ halts.Unfit = sym (limit stop) ∙ is in cc e)
@@ -218,4 +218,4 @@ module _ (c : PlayedWorld) (past : List LineAt) (led : IsLedBy c past) (p : ℕ)
   unfit_by (Some halts.Unfit) stop none is = absurd (stops_so n halts.Unfit stop)
 
   pub not_unfit : (h ≡ halts.Unfit → act_of n ≡ None) → h ≡ halts.Unfit → ⊥
-  not_unfit none is = unfit_by (stop_of n) refl (none is) is
+  not_unfit none is = unfit_by (node_halt n) refl (none is) is

@@ -6,7 +6,7 @@ use Rattle.sj_core.specs.Views.{line_at}
 use Rattle.sj_lang.specs.FileAt.{FileAt}
 use Rattle.sj_lang.specs.Place.{Place}
 use Rattle.sj_node.specs.declared.node.Node.{Node}
-use Rattle.sj_plain.specs.Kept.{file_kept}
+use Rattle.sj_plain.specs.SharedFile.{file_kept}
 use Rattle.sj_rules.specs.History.{due}
 use Rattle.sj_rules.specs.Log.{LineAt}
 use Rattle.sj_rules.specs.Node.{acts}

@@ -2,7 +2,7 @@
 
 use sj_end::Line;
 use sj_node::Node;
-use sj_plain::Kept;
+use sj_plain::SharedFile;
 use sj_seat::{HeldEnd, OpenedSession, Openings};
 use sj_table::Table;
 use std::alloc::Global;
@@ -21,7 +21,7 @@ pub struct Chair {
 #[derive(Drop)]
 pub struct PlayedWorld {
     pub alloc: Global,
-    pub kept: Kept,
+    pub kept: SharedFile,
     pub table: Table,
     pub nodes: Vec<Node>,
     pub chairs: Vec<Option<Chair>>,

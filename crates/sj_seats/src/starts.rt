@@ -4,7 +4,7 @@ ghost use Rattle.sj_base.specs.declared.EndId.{EndId};
 ghost use Rattle.sj_check.specs.Held.{file_in as held};
 ghost use Rattle.sj_lang.specs.FileAt.{body_named};
 ghost use Rattle.sj_lang.specs.FileView.{file_of};
-ghost use Rattle.sj_plain.specs.Kept.{without_words};
+ghost use Rattle.sj_plain.specs.SharedFile.{without_words};
 ghost use Rattle.sj_seat.specs.Places.{CarriesPlaces};
 ghost use Rattle.sj_seats.specs.Beginning.{AreBegun, HasBegun, Sat, SitsSo};
 ghost use Rattle.sj_seats.specs.Core.{is_seat};
@@ -17,7 +17,7 @@ use crate::played::{Chair, PlayedWorld};
 use sj_base::NoMemory;
 use sj_check::Accepted;
 use sj_node::Node;
-use sj_plain::Kept;
+use sj_plain::SharedFile;
 use sj_seat::{OpenedSession, first_ends, party_openings};
 use sj_table::Table;
 use std::alloc::Global;
@@ -113,7 +113,7 @@ impl PlayedWorld {
             let chair = first_seat(alloc, accepted, table, party as u16, seated)?;
             chairs.push(chair)?;
         }
-        let kept = Kept::of(accepted)?;
+        let kept = SharedFile::of(accepted)?;
         let table = table.copied()?;
         let history = Vec::new(alloc);
         Ok(PlayedWorld {

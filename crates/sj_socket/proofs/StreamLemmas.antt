@@ -3,7 +3,7 @@ use Rattle.std.proofs.Common.{◌≡◌, ℕ, List, [], ◌++◌, Option, Some, 
 use Rattle.std.specs.Io.KnownBytes.{Appends, Consumes}
 use Rattle.std.proofs.KnownBytes.{Appends-nil, Appends-trans, Consumes-nil}
 use Rattle.sj_end.specs.Views.{frame_at}
-use Rattle.sj_end.specs.declared.wire.Frame.{Frame}
+use Rattle.sj_end.specs.declared.frames.Frame.{Frame}
 use Rattle.sj_lane.specs.declared.lane.PopRefusal.{PopRefusal}
 use Rattle.sj_lane.specs.declared.lane.PopRefusal.TheVariants.{Fault}
 use Rattle.sj_wire.specs.Front.{Whole, front_of}

@@ -1,6 +1,6 @@
 -- How a call changes counts.
 use Rattle.std.specs.Prelude.{ℕ, ◌+◌, ◌-◌, ◌^◌, min, List, [], ◌∷◌, Option, Result, Ok, Err}
-use Rattle.sj_end.specs.declared.wire.Frame.{Frame}
+use Rattle.sj_end.specs.declared.frames.Frame.{Frame}
 use Rattle.sj_lane.specs.Told.{raised}
 use Rattle.sj_lane.specs.declared.lane.Lanes.{Lanes}
 use Rattle.sj_lane.specs.declared.lane.PushRefusal.{PushRefusal}

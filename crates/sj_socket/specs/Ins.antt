@@ -3,7 +3,7 @@ use Rattle.std.specs.Prelude.{◌≡◌, ⊤, ℕ, List, [], ◌∷◌, ◌++◌
 use Rattle.std.specs.Io.KnownBytes.{Consumes}
 use Rattle.std.specs.declared.net.socket_addr.SocketAddr.{SocketAddr}
 use Rattle.sj_end.specs.Views.{frame_at}
-use Rattle.sj_end.specs.declared.wire.Frame.{Frame}
+use Rattle.sj_end.specs.declared.frames.Frame.{Frame}
 use Rattle.sj_wire.specs.Front.{Front, Cut, Refused, Whole, front_of}
 use Rattle.sj_socket.specs.declared.in_lane.InWay.{InWay}
 use Rattle.sj_socket.specs.declared.in_lane.InWay.TheVariants as ways

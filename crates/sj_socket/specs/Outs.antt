@@ -3,7 +3,7 @@ use Rattle.std.specs.Prelude.{◌≡◌, ◌<◌, ⊤, ℕ, List, [], ◌∷◌,
 use Rattle.std.specs.Io.KnownBytes.{Appends}
 use Rattle.std.specs.declared.net.socket_addr.SocketAddr.{SocketAddr}
 use Rattle.sj_end.specs.Views.{frame_at}
-use Rattle.sj_end.specs.declared.wire.Frame.{Frame}
+use Rattle.sj_end.specs.declared.frames.Frame.{Frame}
 use Rattle.sj_wire.specs.Spelling.{spelling}
 use Rattle.sj_socket.specs.declared.out_lane.OutWay.{OutWay}
 use Rattle.sj_socket.specs.declared.out_lane.OutWay.TheVariants as ways

@@ -1,6 +1,6 @@
 -- What a party sends to itself: it goes into a list, and comes to its other end by `carry`.
 use Rattle.std.specs.Prelude.{◌≡◌, ⊤, ℕ, List, [], ◌++◌, Option, Some, None, slice_get}
-use Rattle.sj_end.specs.declared.wire.Frame.{Frame}
+use Rattle.sj_end.specs.declared.frames.Frame.{Frame}
 use Rattle.sj_lane.specs.Square.{in_at, out_at}
 use Rattle.sj_lane.specs.declared.lane.Lanes.{Lanes}
 use Rattle.sj_socket.specs.Streams.{TcpIn, TcpOut}

@@ -1,12 +1,12 @@
 //! The links.
 ghost use Rattle.std.proofs.Common.{◌∙◌, sym};
 ghost use Rattle.std.specs.Prelude.{◌≡◌, ◌≤◌, ◌<◌, ◌++◌, ℕ, Ok, Err, None, IfOk, IfSome, OnOk, [], false, true, length, vec_len};
-ghost use Rattle.sj_lane.specs.Square.{AllJoined, HasFault, IsFresh, IsRest, IsSquare, Kept, NoFault, NoneFell, SameLists};
+ghost use Rattle.sj_lane.specs.Square.{AllJoined, HasFault, IsFresh, IsRest, IsSquare, KeepsLists, NoFault, NoneFell, SameLists};
 ghost use Rattle.sj_lane.specs.Told.{Rose};
 ghost use Rattle.sj_socket.specs.Counts.{capped_sum, faults_make, met};
 ghost use Rattle.sj_socket.specs.Idle.{AreIdle};
 ghost use Rattle.sj_socket.specs.Joined.{AreLinks, IsJoined};
-ghost use Rattle.sj_socket.specs.Kept.{AreCarried, uncounted, untold};
+ghost use Rattle.sj_socket.specs.KeepsLists.{AreCarried, uncounted, untold};
 ghost use Rattle.sj_socket.specs.Own.{own_came, own_sent};
 
 use crate::carries::carry_all;
@@ -147,7 +147,7 @@ impl<R: Net + Drop> Links for SocketLinks<R> {
     fn back(&mut self, lanes: Vec<Lanes<TcpOut, TcpIn>>)
         requires square { IsSquare lanes.items }
         requires joined { AllJoined IsJoined lanes.items }
-        ensures kept { false ≡ true → Kept ⟦<TcpOut as OutLane>⟧.pushed
+        ensures kept { false ≡ true → KeepsLists ⟦<TcpOut as OutLane>⟧.pushed
             ⟦<TcpIn as InLane>⟧.popped ⟦<TcpOut as OutLane>⟧.vain ⟦<TcpIn as InLane>⟧.vain
             lanes.items (λ _ _. []) (λ _ _. []) (λ _ _. 0) (λ _ _. 0) }
         ensures tells { false ≡ false }

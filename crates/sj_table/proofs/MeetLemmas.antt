@@ -23,5 +23,5 @@ module _ (here next : Place) (items : List Item) (n : ℕ) (i j : Item) (lt : n 
     pub goes_on : met ≡ true → stands_for next (place_of (drop (n + 1) items)) ≡ all
     goes_on e = sym (split ∙ ap (λ (b : Bool). b && stands_for next (place_of (drop (n + 1) items))) e)
 
-    pub stops : met ≡ false → false ≡ all
-    stops e = sym (split ∙ ap (λ (b : Bool). b && stands_for next (place_of (drop (n + 1) items))) e)
+    pub rows : met ≡ false → false ≡ all
+    rows e = sym (split ∙ ap (λ (b : Bool). b && stands_for next (place_of (drop (n + 1) items))) e)

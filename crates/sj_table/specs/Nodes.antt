@@ -5,8 +5,8 @@ use Rattle.sj_lang.specs.Place.{Place, Choices, done, message, choice, repeat, n
 use Rattle.sj_lang.specs.declared.proto.Item.{Item}
 use Rattle.sj_lang.specs.declared.proto.Item.TheVariants.{OutLoop, InLoop}
 use Rattle.sj_table.specs.declared.table.Spot.{Spot}
-use Rattle.sj_table.specs.declared.leads.Stop.{Stop}
-use Rattle.sj_table.specs.Table.{IsStop, Leads, places_of}
+use Rattle.sj_table.specs.declared.leads.Row.{Row}
+use Rattle.sj_table.specs.Table.{IsRow, Leads, places_of}
 
 abbrev mutual
   -- the items of a place that aren't inside a carried kind
@@ -30,19 +30,19 @@ nodes_of [] = 0
 nodes_of (p ∷ ps) = node_count p.body + nodes_of ps
 
 -- each node's next node is before it
-abbrev pub AreBack : List Stop → Type 0
-AreBack stops = (i : ℕ) (s : Stop) → i < length stops → s ≡ get_or stops i s → s.next < suc i
+abbrev pub AreBack : List Row → Type 0
+AreBack rows = (i : ℕ) (s : Row) → i < length rows → s ≡ get_or rows i s → s.next < suc i
 
 -- nodes that others were appended to, which lead to nodes before them, and into their items
-pub record Grown (old new : List Stop) : Type 0 where
-  pub more : List Stop
+pub record Grown (old new : List Row) : Type 0 where
+  pub more : List Row
   pub is : new ≡ old ++ more
-  pub each : (i : ℕ) (s : Stop) → length old ≤ i → i < length new → s ≡ get_or new i s → IsStop (places_of new) (suc i) s
+  pub each : (i : ℕ) (s : Row) → length old ≤ i → i < length new → s ≡ get_or new i s → IsRow (places_of new) (suc i) s
 
 -- a node has one more node in it
-pub record Turned (at first : ℕ) (old new : List Stop) : Type 0 where
-  pub was : Stop
-  pub is : Stop
+pub record Turned (at first : ℕ) (old new : List Row) : Type 0 where
+  pub was : Row
+  pub is : Row
   pub there : was ≡ get_or old at was
   pub item : is.item ≡ was.item
   pub next : is.next ≡ was.next

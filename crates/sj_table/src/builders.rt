@@ -7,7 +7,7 @@ ghost use Rattle.sj_lang.specs.View.{followed, place_of};
 ghost use Rattle.sj_table.specs.Nodes.{AreBack, Grown, IsLoop, Turned, arm_nodes, node_count, limit_of_nodes};
 ghost use Rattle.sj_table.specs.Table.{AreEntered, IsEntered, IsTable, Leads, at_node, places_of};
 
-use crate::leads::Stop;
+use crate::leads::Row;
 use sj_base::NoMemory;
 use sj_lang::{Arms, Item, Proto, append_copies};
 use std::alloc::Global;
@@ -18,51 +18,51 @@ use std::slice::from_ref;
 #[cycle(build)]
 pub(crate) fn add_place(
     alloc: Global,
-    stops: &mut Vec<Stop>,
+    rows: &mut Vec<Row>,
     place: &Proto,
     next: u32,
 ) -> Result<u32, NoMemory>
-    requires back { AreBack stops.old.items }
-    requires next { next ≤ length stops.old.items }
-    requires few { length stops.old.items + node_count place.now < limit_of_nodes }
-    ensures leads { IfOk result (λ n. Leads (places_of stops.new.items) n place.now
-        (at_node (places_of stops.old.items) next)) }
-    ensures grown { IfOk result (λ n. Grown stops.old.items stops.new.items) }
-    ensures count { IfOk result (λ n. length stops.new.items ≡ length stops.old.items + node_count place.now) }
+    requires back { AreBack rows.old.items }
+    requires next { next ≤ length rows.old.items }
+    requires few { length rows.old.items + node_count place.now < limit_of_nodes }
+    ensures leads { IfOk result (λ n. Leads (places_of rows.new.items) n place.now
+        (at_node (places_of rows.old.items) next)) }
+    ensures grown { IfOk result (λ n. Grown rows.old.items rows.new.items) }
+    ensures count { IfOk result (λ n. length rows.new.items ≡ length rows.old.items + node_count place.now) }
 {
     let mut node = next;
     let mut at = place.items.len();
     while at > 0 {
         at -= 1;
-        node = add_item(alloc, stops, &place.items[at], node)?;
+        node = add_item(alloc, rows, &place.items[at], node)?;
     }
     Ok(node)
 }
 
 #[cycle(build)]
-fn add_item(alloc: Global, stops: &mut Vec<Stop>, item: &Item, next: u32) -> Result<u32, NoMemory>
-    requires back { AreBack stops.old.items }
-    requires next { next ≤ length stops.old.items }
-    requires few { length stops.old.items + node_count (followed item.now done) < limit_of_nodes }
-    ensures within { IfOk result (λ n. n ≤ length stops.new.items) }
-    ensures leads { IfOk result (λ n. at_node (places_of stops.new.items) n
-        ≡ followed item.now (at_node (places_of stops.old.items) next)) }
-    ensures grown { IfOk result (λ n. Grown stops.old.items stops.new.items) }
-    ensures count { IfOk result (λ n. length stops.new.items
-        ≡ length stops.old.items + node_count (followed item.now done)) }
+fn add_item(alloc: Global, rows: &mut Vec<Row>, item: &Item, next: u32) -> Result<u32, NoMemory>
+    requires back { AreBack rows.old.items }
+    requires next { next ≤ length rows.old.items }
+    requires few { length rows.old.items + node_count (followed item.now done) < limit_of_nodes }
+    ensures within { IfOk result (λ n. n ≤ length rows.new.items) }
+    ensures leads { IfOk result (λ n. at_node (places_of rows.new.items) n
+        ≡ followed item.now (at_node (places_of rows.old.items) next)) }
+    ensures grown { IfOk result (λ n. Grown rows.old.items rows.new.items) }
+    ensures count { IfOk result (λ n. length rows.new.items
+        ≡ length rows.old.items + node_count (followed item.now done)) }
 {
     match item {
         Item::Send(_) | Item::Recv(_) => {
             let copy = copied_item(alloc, item)?;
-            add_node(stops, copy, next, Vec::new(alloc))
+            add_node(rows, copy, next, Vec::new(alloc))
         }
         Item::Select(arms) | Item::Branch(arms) => {
-            let inside = add_arms(alloc, stops, arms, next)?;
+            let inside = add_arms(alloc, rows, arms, next)?;
             let copy = copied_item(alloc, item)?;
-            let node = add_node(stops, copy, next, inside)?;
+            let node = add_node(rows, copy, next, inside)?;
             Ok(node)
         }
-        Item::OutLoop(body) | Item::InLoop(body) => add_loop(alloc, stops, item, body, next),
+        Item::OutLoop(body) | Item::InLoop(body) => add_loop(alloc, rows, item, body, next),
     }
 }
 
@@ -70,26 +70,26 @@ fn add_item(alloc: Global, stops: &mut Vec<Stop>, item: &Item, next: u32) -> Res
 #[cycle(build)]
 fn add_loop(
     alloc: Global,
-    stops: &mut Vec<Stop>,
+    rows: &mut Vec<Row>,
     item: &Item,
     body: &Proto,
     next: u32,
 ) -> Result<u32, NoMemory>
     requires loops { IsLoop item.now body.now }
-    requires back { AreBack stops.old.items }
-    requires next { next ≤ length stops.old.items }
-    requires few { length stops.old.items + node_count (followed item.now done) < limit_of_nodes }
-    ensures within { IfOk result (λ n. n ≤ length stops.new.items) }
-    ensures leads { IfOk result (λ n. at_node (places_of stops.new.items) n
-        ≡ followed item.now (at_node (places_of stops.old.items) next)) }
-    ensures grown { IfOk result (λ n. Grown stops.old.items stops.new.items) }
-    ensures count { IfOk result (λ n. length stops.new.items
-        ≡ length stops.old.items + node_count (followed item.now done)) }
+    requires back { AreBack rows.old.items }
+    requires next { next ≤ length rows.old.items }
+    requires few { length rows.old.items + node_count (followed item.now done) < limit_of_nodes }
+    ensures within { IfOk result (λ n. n ≤ length rows.new.items) }
+    ensures leads { IfOk result (λ n. at_node (places_of rows.new.items) n
+        ≡ followed item.now (at_node (places_of rows.old.items) next)) }
+    ensures grown { IfOk result (λ n. Grown rows.old.items rows.new.items) }
+    ensures count { IfOk result (λ n. length rows.new.items
+        ≡ length rows.old.items + node_count (followed item.now done)) }
 {
     let copy = copied_item(alloc, item)?;
-    let here = add_stop(stops, copy, next, Vec::new(alloc))?;
-    let first = add_place(alloc, stops, body, here)?;
-    turn(stops, here, first)?;
+    let here = add_row(rows, copy, next, Vec::new(alloc))?;
+    let first = add_place(alloc, rows, body, here)?;
+    turn(rows, here, first)?;
     Ok(here)
 }
 
@@ -97,21 +97,21 @@ fn add_loop(
 #[cycle(build)]
 fn add_arms(
     alloc: Global,
-    stops: &mut Vec<Stop>,
+    rows: &mut Vec<Row>,
     choice: &Arms,
     next: u32,
 ) -> Result<Vec<u32>, NoMemory>
-    requires back { AreBack stops.old.items }
-    requires next { next ≤ length stops.old.items }
-    requires few { length stops.old.items + arm_nodes choice.now < limit_of_nodes }
-    ensures entered { IfOk result (λ ns. AreEntered (places_of stops.new.items) choice.now
-        (at_node (places_of stops.old.items) next) ns.items) }
-    ensures grown { IfOk result (λ ns. Grown stops.old.items stops.new.items) }
-    ensures count { IfOk result (λ ns. length stops.new.items ≡ length stops.old.items + arm_nodes choice.now) }
+    requires back { AreBack rows.old.items }
+    requires next { next ≤ length rows.old.items }
+    requires few { length rows.old.items + arm_nodes choice.now < limit_of_nodes }
+    ensures entered { IfOk result (λ ns. AreEntered (places_of rows.new.items) choice.now
+        (at_node (places_of rows.old.items) next) ns.items) }
+    ensures grown { IfOk result (λ ns. Grown rows.old.items rows.new.items) }
+    ensures count { IfOk result (λ ns. length rows.new.items ≡ length rows.old.items + arm_nodes choice.now) }
 {
     let mut inside = Vec::new(alloc);
     for arm in &choice.arms {
-        let node = add_place(alloc, stops, &arm.rest, next)?;
+        let node = add_place(alloc, rows, &arm.rest, next)?;
         inside.push(node)?;
     }
     Ok(inside)
@@ -126,54 +126,54 @@ pub(crate) fn copied_item(alloc: Global, item: &Item) -> Result<Item, NoMemory>
 }
 
 // The node of an item into which its inner nodes lead.
-fn add_node(stops: &mut Vec<Stop>, item: Item, next: u32, inside: Vec<u32>) -> Result<u32, NoMemory>
-    requires next { next ≤ length stops.old.items }
-    requires few { length stops.old.items < limit_of_nodes }
-    requires entered { IsEntered (places_of stops.old.items) item
-        (at_node (places_of stops.old.items) next) inside.items }
-    ensures within { IfOk result (λ n. n ≤ length stops.new.items) }
-    ensures leads { IfOk result (λ n. at_node (places_of stops.new.items) n
-        ≡ followed item (at_node (places_of stops.old.items) next)) }
-    ensures grown { IfOk result (λ n. Grown stops.old.items stops.new.items) }
-    ensures count { IfOk result (λ n. length stops.new.items ≡ length stops.old.items + 1) }
+fn add_node(rows: &mut Vec<Row>, item: Item, next: u32, inside: Vec<u32>) -> Result<u32, NoMemory>
+    requires next { next ≤ length rows.old.items }
+    requires few { length rows.old.items < limit_of_nodes }
+    requires entered { IsEntered (places_of rows.old.items) item
+        (at_node (places_of rows.old.items) next) inside.items }
+    ensures within { IfOk result (λ n. n ≤ length rows.new.items) }
+    ensures leads { IfOk result (λ n. at_node (places_of rows.new.items) n
+        ≡ followed item (at_node (places_of rows.old.items) next)) }
+    ensures grown { IfOk result (λ n. Grown rows.old.items rows.new.items) }
+    ensures count { IfOk result (λ n. length rows.new.items ≡ length rows.old.items + 1) }
 {
-    let node = add_stop(stops, item, next, inside)?;
+    let node = add_row(rows, item, next, inside)?;
     Ok(node)
 }
 
-fn add_stop(stops: &mut Vec<Stop>, item: Item, next: u32, inside: Vec<u32>) -> Result<u32, NoMemory>
-    requires { length stops.old.items < limit_of_nodes }
-    ensures node { IfOk result (λ n. n ≡ length stops.old.items + 1) }
-    ensures pushed { OnOk result (stops.new.items
-        ≡ stops.old.items ++ record { item = item; next = next; inside = inside } ∷ []) }
+fn add_row(rows: &mut Vec<Row>, item: Item, next: u32, inside: Vec<u32>) -> Result<u32, NoMemory>
+    requires { length rows.old.items < limit_of_nodes }
+    ensures node { IfOk result (λ n. n ≡ length rows.old.items + 1) }
+    ensures pushed { OnOk result (rows.new.items
+        ≡ rows.old.items ++ record { item = item; next = next; inside = inside } ∷ []) }
 {
-    let node = stops.len() as u32 + 1;
-    stops.push(Stop { item, next, inside })?;
+    let node = rows.len() as u32 + 1;
+    rows.push(Row { item, next, inside })?;
     Ok(node)
 }
 
 // The body of the loop at that node begins at the other node.
-fn turn(stops: &mut Vec<Stop>, node: u32, first: u32) -> Result<(), NoMemory>
+fn turn(rows: &mut Vec<Row>, node: u32, first: u32) -> Result<(), NoMemory>
     requires some { 0 < node }
-    requires there { node ≤ length stops.old.items }
-    ensures { OnOk result ((at : ℕ) → at + 1 ≡ node → Turned at first stops.old.items stops.new.items) }
+    requires there { node ≤ length rows.old.items }
+    ensures { OnOk result ((at : ℕ) → at + 1 ≡ node → Turned at first rows.old.items rows.new.items) }
 {
-    let stop = &mut stops[node as usize - 1];
-    stop.inside.push(first)?;
+    let row = &mut rows[node as usize - 1];
+    row.inside.push(first)?;
     Ok(())
 }
 
 /// The items from that node on.
-pub(crate) fn items_at(alloc: Global, stops: &[Stop], node: u32) -> Result<Vec<Item>, NoMemory>
-    requires { IsTable stops.now }
-    ensures { IfOk result (λ is. place_of is.items ≡ at_node (places_of stops.now) node) }
+pub(crate) fn items_at(alloc: Global, rows: &[Row], node: u32) -> Result<Vec<Item>, NoMemory>
+    requires { IsTable rows.now }
+    ensures { IfOk result (λ is. place_of is.items ≡ at_node (places_of rows.now) node) }
 {
     let mut items = Vec::new(alloc);
     let mut at = node;
-    while at != 0 && at as usize <= stops.len() {
-        let stop = &stops[at as usize - 1];
-        items.push(copied_item(alloc, &stop.item)?)?;
-        at = stop.next;
+    while at != 0 && at as usize <= rows.len() {
+        let row = &rows[at as usize - 1];
+        items.push(copied_item(alloc, &row.item)?)?;
+        at = row.next;
     }
     Ok(items)
 }

@@ -14,7 +14,7 @@ ghost use Rattle.sj_table.specs.declared.table.Table.{Table};
 
 use crate::builders::{add_place, items_at};
 use crate::comparisons::{is_node_of, node_stands_for, same_nodes};
-use crate::leads::{Stop, after_node, is_done_node, split_node};
+use crate::leads::{Row, after_node, is_done_node, split_node};
 use sj_base::{Msg, NoMemory};
 use sj_lang::{Item, Proto, ProtocolDef, Way};
 use std::alloc::Global;
@@ -30,7 +30,7 @@ pub struct Spot {
 /// The nodes of a table after node 0, and where each protocol starts.
 #[derive(Drop)]
 pub(crate) struct Nodes {
-    pub(crate) stops: Vec<Stop>,
+    pub(crate) rows: Vec<Row>,
     pub(crate) starts: Vec<(u16, Spot)>,
 }
 
@@ -56,9 +56,9 @@ impl Model for Table {
     ghost use Rattle.std.specs.Arc.{arc_value};
     ghost use Rattle.sj_table.specs.Table.{IsWhole, places_of};
 
-    ghost view = { λ t. (places_of (arc_value t.nodes).stops.items, (arc_value t.nodes).starts.items) };
+    ghost view = { λ t. (places_of (arc_value t.nodes).rows.items, (arc_value t.nodes).starts.items) };
 
-    ghost invariant = { λ t. IsWhole (arc_value t.nodes).stops.items (arc_value t.nodes).starts.items };
+    ghost invariant = { λ t. IsWhole (arc_value t.nodes).rows.items (arc_value t.nodes).starts.items };
 }
 
 impl Table {
@@ -73,13 +73,13 @@ impl Table {
         // There is one node for each item, and node 0.
         ensures nodes { IfOk result (λ t. length t.0 ≡ nodes_of (map protocol_of defs.now) + 1) }
     {
-        let mut stops = Vec::new(alloc);
+        let mut rows = Vec::new(alloc);
         let mut starts = Vec::new(alloc);
         for def in defs {
-            let node = add_place(alloc, &mut stops, &def.body, 0)?;
+            let node = add_place(alloc, &mut rows, &def.body, 0)?;
             starts.push((def.name, Spot { node }))?;
         }
-        let nodes = Arc::new(alloc, Nodes { stops, starts })?;
+        let nodes = Arc::new(alloc, Nodes { rows, starts })?;
         Ok(Table { nodes })
     }
 
@@ -107,7 +107,7 @@ impl Table {
     pub fn has(&self, spot: Spot) -> bool
         ensures { IsTrue result ↔ HasSpot self.now spot }
     {
-        spot.node as usize <= self.nodes.stops.len()
+        spot.node as usize <= self.nodes.rows.len()
     }
 
     /// The spot of the empty place.
@@ -115,7 +115,7 @@ impl Table {
         ensures place { place_in self.now result ≡ done }
         ensures there { HasSpot self.now result }
     {
-        let _ = &self.nodes.stops;
+        let _ = &self.nodes.rows;
         Spot { node: 0 }
     }
 
@@ -125,7 +125,7 @@ impl Table {
         // Only node 0 stands for the empty place.
         ensures only { IsTrue result → HasSpot self.now spot → spot.node ≡ 0 }
     {
-        is_done_node(&self.nodes.stops, spot.node)
+        is_done_node(&self.nodes.rows, spot.node)
     }
 
     /// The spot of the place after a message. A session message counts as of any session kind. A
@@ -135,7 +135,7 @@ impl Table {
             ≡ after_place (place_in self.now spot) way msg.now }
         ensures there { IfSome result (HasSpot self.now) }
     {
-        let node = after_node(&self.nodes.stops, spot.node, way, msg);
+        let node = after_node(&self.nodes.rows, spot.node, way, msg);
         spot_at(node)
     }
 
@@ -145,7 +145,7 @@ impl Table {
             MatchOption result (here ≡ done) (λ p. here ≡ followed p.0.now (place_in self.now p.1)) }
         ensures there { IfSome result (λ p. HasSpot self.now p.1) }
     {
-        let (item, node) = split_node(&self.nodes.stops, spot.node)?;
+        let (item, node) = split_node(&self.nodes.rows, spot.node)?;
         Some((item, Spot { node }))
     }
 
@@ -154,28 +154,28 @@ impl Table {
     pub fn is_same(&self, one: Spot, other: Spot) -> bool
         ensures { IsTrue result ↔ (place_in self.now one ≡ place_in self.now other) }
     {
-        same_nodes(&self.nodes.stops, one.node, other.node)
+        same_nodes(&self.nodes.rows, one.node, other.node)
     }
 
     /// Whether the spot's place is this one.
     pub fn is_at(&self, spot: Spot, place: &Proto) -> bool
         ensures { IsTrue result ↔ (place_in self.now spot ≡ place.now) }
     {
-        is_node_of(&self.nodes.stops, spot.node, &place.items)
+        is_node_of(&self.nodes.rows, spot.node, &place.items)
     }
 
     /// Whether an end at the spot can stand where one at this place is wanted.
     pub fn stands_for(&self, spot: Spot, wanted: &Proto) -> bool
         ensures { result ≡ stands_for (place_in self.now spot) wanted.now }
     {
-        node_stands_for(&self.nodes.stops, spot.node, &wanted.items)
+        node_stands_for(&self.nodes.rows, spot.node, &wanted.items)
     }
 
     /// The place for which the spot stands.
     pub fn place(&self, alloc: Global, spot: Spot) -> Result<Proto, NoMemory>
         ensures { IfOk result (λ p. p ≡ place_in self.now spot) }
     {
-        let items = items_at(alloc, &self.nodes.stops, spot.node)?;
+        let items = items_at(alloc, &self.nodes.rows, spot.node)?;
         Ok(Proto { items })
     }
 }

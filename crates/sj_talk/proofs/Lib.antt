@@ -17,4 +17,3 @@ mod ServeLemmas
 mod SettledLemmas
 mod StartLemmas
 mod UseLemmas
-mod WordLemmas

@@ -13,7 +13,7 @@ use Rattle.sj_talk.specs.Words.{last_line, lines_in, without_last_empty}
 use Rattle.sj_semantics.specs.declared.Verdict.{Verdict}
 use Rattle.sj_semantics.specs.Lines.{line_of}
 use Rattle.sj_talk.specs.declared.said.Said.{Said}
-use Rattle.sj_talk.proofs.WordLemmas.{ended_by, one_part, some_part}
+use Rattle.sj_fields.proofs.WordLemmas.{ended_by, one_part, some_part}
 
 first_of_more : (x : List ℕ) (xs : List (List ℕ)) → 0 < length xs → without_last_empty (x ∷ xs) ≡ x ∷ without_last_empty xs
 first_of_more x [] some = absurd (omega arith)

@@ -6,7 +6,7 @@ ghost use Rattle.sj_talk.specs.Forms.{alone, form_of, int_of, is_short_name, is_
 ghost use Rattle.sj_talk.specs.Forms.{number_of, plus, value_of, with_name, with_words};
 ghost use Rattle.sj_talk.specs.Play.{form_at, value_at};
 
-use crate::words::Words;
+use sj_fields::Fields;
 use sj_grammar::{are_digits, are_printable, is};
 use sj_proto::{digits_number, goes_on_after_zero, is_name_text};
 
@@ -169,7 +169,7 @@ fn with_name<'a>(verb: &[u8], end: &'a [u8], name: &'a [u8]) -> Option<Form<'a>>
 
 // A verb and an end, with the words after them.
 #[tactic(auto, unfolding(crate::specs::Forms::with_words))]
-fn with_words<'a>(verb: &[u8], end: &'a [u8], more: Words<'a>) -> Option<Form<'a>>
+fn with_words<'a>(verb: &[u8], end: &'a [u8], more: Fields<'a>) -> Option<Form<'a>>
     ensures { option_map form_at result ≡ with_words verb.now end.now more.entry }
 {
     let mut more = more;
@@ -195,7 +195,7 @@ fn with_words<'a>(verb: &[u8], end: &'a [u8], more: Words<'a>) -> Option<Form<'a
 pub fn form_in(line: &[u8]) -> Option<Form<'_>>
     ensures { option_map form_at result ≡ form_of line.now }
 {
-    let mut words = Words::of(line);
+    let mut words = Fields::of(line);
     let verb = words.next();
     let end = words.next();
     if is_short_name(end) {

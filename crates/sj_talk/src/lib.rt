@@ -14,7 +14,6 @@ mod refusals;
 mod said;
 mod start;
 mod talk;
-mod words;
 
 pub use form::{Form, Value, form_in};
 pub use laws::{

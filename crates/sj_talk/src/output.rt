@@ -11,9 +11,9 @@ ghost use Rattle.sj_talk.specs.Talk.{talk_of};
 ghost use Rattle.sj_talk.specs.Words.{lines_in};
 ghost use Rattle.sj_text.specs.Cut.{IsCutShort};
 
-use crate::words::first_at;
 use crate::{Said, Talk};
 use sj_base::{Msg, NoMemory};
+use sj_fields::first_at;
 use sj_lang::File;
 use sj_print::{print_message, print_verdict};
 use sj_semantics::Verdict;

@@ -1,9 +1,8 @@
 //! How a talk begins.
-ghost use Rattle.std.specs.Prelude.{◌≡◌, ◌<◌, ◌^◌, ◌++◌, IfOk, OnOk, length, map};
+ghost use Rattle.std.specs.Prelude.{◌≡◌, ◌<◌, IfOk, length, map};
 ghost use Rattle.sj_acceptance.specs.Accepted.{IsAccepted};
 ghost use Rattle.sj_check.specs.Held.{file_in as held};
-ghost use Rattle.sj_lang.specs.FileAt.{FileAt, end_of_party, ends_from};
-ghost use Rattle.sj_lang.specs.FileView.{decl_of, file_of, party_of};
+ghost use Rattle.sj_lang.specs.FileView.{file_of, party_of};
 ghost use Rattle.sj_machine.specs.Sound.{program_at};
 ghost use Rattle.sj_talk.specs.Names.{shown_file, spelled, word_at};
 ghost use Rattle.sj_talk.specs.Play.{IsPlayed, ends_at, idle_parties, talk_at};
@@ -14,8 +13,8 @@ use crate::names::{Bound, once};
 use crate::play::Play;
 use sj_base::{EndId, NoMemory};
 use sj_check::Accepted;
-use sj_lang::{EndDecl, File, Names, Party, Words};
-use sj_machine::{Machine, party_of_name};
+use sj_lang::{File, Names, Party, Words};
+use sj_machine::{Machine, connected_ends};
 use sj_plain::Course;
 use std::alloc::Global;
 
@@ -29,7 +28,7 @@ pub fn start(alloc: Global, accepted: &Accepted, party: u16) -> Result<Play, NoM
     let mut course = Course::start(alloc, accepted)?;
     let machine = no_program(alloc, file, party)?;
     course.machines[party as usize] = machine;
-    let numbered = numbered_ends(alloc, file, party)?;
+    let numbered = connected_ends(alloc, file, party)?;
     let ends = spelled(alloc, &file.names.words, &numbered)?;
     let shown = shown_file(alloc, file)?;
     Ok(Play {
@@ -85,53 +84,6 @@ fn shown_file(alloc: Global, file: &File) -> Result<File, NoMemory>
         parties,
         connects,
     })
-}
-
-// Puts an end after the others where it belongs to the party.
-fn add_end(
-    ends: &mut Vec<(u16, EndId)>,
-    parties: &[Party],
-    party: u16,
-    decl: EndDecl,
-    end: EndId,
-) -> Result<(), NoMemory>
-    ensures { OnOk result ((file : FileAt) → file.parties ≡ map party_of parties.now →
-        ends.new.items ≡ ends.old.items ++ end_of_party file party (decl_of decl) end) }
-{
-    if party_of_name(parties, decl.party) == party as usize {
-        ends.push((decl.name, end))?;
-    }
-    Ok(())
-}
-
-// The ends that connections give the party, in file order, under the numbers of their names.
-fn numbered_ends(alloc: Global, file: &File, party: u16) -> Result<Vec<(u16, EndId)>, NoMemory>
-    requires { length (file_of file.now).connects < 2 ^ 32 }
-    ensures { IfOk result (λ ends. ends.items
-        ≡ ends_from (file_of file.now) party 0 (file_of file.now).connects) }
-{
-    let mut ends = Vec::new(alloc);
-    let mut at = 0;
-    while at < file.connects.len() {
-        let connect = file.connects[at];
-        let sess = at as u32;
-        add_end(
-            &mut ends,
-            &file.parties,
-            party,
-            connect.first,
-            EndId { sess, side: 0 },
-        )?;
-        add_end(
-            &mut ends,
-            &file.parties,
-            party,
-            connect.second,
-            EndId { sess, side: 1 },
-        )?;
-        at += 1;
-    }
-    Ok(ends)
 }
 
 // The ends, each under its word.

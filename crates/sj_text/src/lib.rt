@@ -2,8 +2,10 @@
 #![tactic(auto)]
 
 mod pieces;
+mod statuses;
 
 pub use pieces::{put, put_int, put_number};
+pub use statuses::{NO_MEMORY, WRITE_FAULT};
 
 #[cfg(test)]
 mod tests;

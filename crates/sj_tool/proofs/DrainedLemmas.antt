@@ -8,7 +8,7 @@ use Rattle.sj_semantics.specs.Program.{Program}
 use Rattle.sj_headline_laws.proofs.HeadlineLemmas.{settled_run_has_it}
 use Rattle.sj_semantics.specs.Run.{end_of}
 use Rattle.sj_semantics_laws.proofs.FinishLemmas.{end_is_settled}
-use Rattle.sj_plain.specs.Kept.{without_words}
+use Rattle.sj_plain.specs.SharedFile.{without_words}
 use Rattle.sj_rules.specs.Drain.{IsDrained}
 use Rattle.sj_rules.specs.History.{IsHistory, IsQuietAmong, turn_of}
 use Rattle.sj_rules.specs.Log.{LineAt}

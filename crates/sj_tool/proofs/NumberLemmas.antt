@@ -2,7 +2,7 @@
 use Rattle.std.proofs.Common.{◌≡◌, ◌⊎◌, ◌≤◌, ◌<◌, ℕ, zero, suc, List, Option, Some, None, inl, inr, ap, subst, refl, arith}
 use Rattle.std.proofs.lemmas.Bool.{cases_eq}
 use Rattle.std.specs.Prelude.{decimal}
-use Rattle.sj_command.specs.Task.{LineAt, StandsForLooks, StandsForWorkers, most_looks, most_workers, usual_looks}
+use Rattle.sj_command.specs.Task.{ArgumentsAt, StandsForLooks, StandsForWorkers, most_looks, most_workers, usual_looks}
 use Rattle.sj_tool.proofs.LineLemmas.{made_of, one_list, one_option}
 
 -- the first number below n that has it
@@ -22,18 +22,18 @@ first_or_none P test (suc n) = by (first_or_none P test n) (test n)
     by (inr none) (no not) = inr (λ k lt has. elim (cases_eq k n) [ inl same ↦ not (subst P same has) | inr other ↦ none k (omega (arith, lt, other)) has ])
 
 -- whether two lines are one
-pub one_line : (x y : LineAt) → Dec (x ≡ y)
+pub one_line : (x y : ArgumentsAt) → Dec (x ≡ y)
 one_line x y = by (one_option one_list x.command y.command) (one_option one_list x.number y.number) (one_option one_list x.log y.log) (one_option one_list x.looks y.looks)
     (one_option one_list x.workers y.workers) (one_option one_list x.forward y.forward)
   where
     by : Dec (x.command ≡ y.command) → Dec (x.number ≡ y.number) → Dec (x.log ≡ y.log) → Dec (x.looks ≡ y.looks) → Dec (x.workers ≡ y.workers) → Dec (x.forward ≡ y.forward) → Dec (x ≡ y)
     by (yes a) (yes b) (yes c) (yes d) (yes e) (yes f) = yes (λ i. record { command = a i; number = b i; log = c i; looks = d i; workers = e i; forward = f i })
-    by (no k) b c d e f = no (λ h. k (ap (λ (z : LineAt). z.command) h))
-    by (yes a) (no k) c d e f = no (λ h. k (ap (λ (z : LineAt). z.number) h))
-    by (yes a) (yes b) (no k) d e f = no (λ h. k (ap (λ (z : LineAt). z.log) h))
-    by (yes a) (yes b) (yes c) (no k) e f = no (λ h. k (ap (λ (z : LineAt). z.looks) h))
-    by (yes a) (yes b) (yes c) (yes d) (no k) f = no (λ h. k (ap (λ (z : LineAt). z.workers) h))
-    by (yes a) (yes b) (yes c) (yes d) (yes e) (no k) = no (λ h. k (ap (λ (z : LineAt). z.forward) h))
+    by (no k) b c d e f = no (λ h. k (ap (λ (z : ArgumentsAt). z.command) h))
+    by (yes a) (no k) c d e f = no (λ h. k (ap (λ (z : ArgumentsAt). z.number) h))
+    by (yes a) (yes b) (no k) d e f = no (λ h. k (ap (λ (z : ArgumentsAt). z.log) h))
+    by (yes a) (yes b) (yes c) (no k) e f = no (λ h. k (ap (λ (z : ArgumentsAt). z.looks) h))
+    by (yes a) (yes b) (yes c) (yes d) (no k) f = no (λ h. k (ap (λ (z : ArgumentsAt). z.workers) h))
+    by (yes a) (yes b) (yes c) (yes d) (yes e) (no k) = no (λ h. k (ap (λ (z : ArgumentsAt). z.forward) h))
 
 -- the option stands for a number of looks, or for none
 pub looks_or_none : (most : ℕ) → most_looks ≡ most → (o : Option (List ℕ)) → ((n : ℕ) × StandsForLooks o n) ⊎ ((n : ℕ) → StandsForLooks o n → ⊥)
@@ -62,7 +62,7 @@ workers_or_none most is (Some text) =
     no_workers none (Some n) h = none n (omega (arith, is, h.2)) (h.0, h.1)
 
 -- what the options stand for, both of them
-pub options_or_none : (l : LineAt) → ((n : ℕ) × StandsForLooks l.looks n) ⊎ ((n : ℕ) → StandsForLooks l.looks n → ⊥)
+pub options_or_none : (l : ArgumentsAt) → ((n : ℕ) × StandsForLooks l.looks n) ⊎ ((n : ℕ) → StandsForLooks l.looks n → ⊥)
     → ((w : Option ℕ) × StandsForWorkers l.workers w) ⊎ ((w : Option ℕ) → StandsForWorkers l.workers w → ⊥)
     → ((n : ℕ) × (w : Option ℕ) × StandsForLooks l.looks n × StandsForWorkers l.workers w)
     ⊎ ((n : ℕ) (w : Option ℕ) → StandsForLooks l.looks n → StandsForWorkers l.workers w → ⊥)

@@ -4,11 +4,11 @@ use Rattle.std.specs.Prelude.{Bool, codes, decimal}
 use Rattle.sj_command.specs.declared.tasks.Task.{Task}
 use Rattle.sj_command.specs.declared.tasks.Task.TheVariants.{Check, Show, Forest, Sim, Run, Forward, Replay, Talk, Make, Big}
 use Rattle.sj_command.specs.CommandLine.{IsTaken}
-use Rattle.sj_command.specs.Task.{Asks, IsCount, IsUsage, LineAt, Means, StandsForLooks, StandsForWorkers, alone, forwarding, last_party, line_in, most_looks, most_messages, most_workers, replaying, running}
+use Rattle.sj_command.specs.Task.{Asks, IsCount, IsUsage, ArgumentsAt, Means, StandsForLooks, StandsForWorkers, alone, forwarding, last_party, line_in, most_looks, most_messages, most_workers, replaying, running}
 use Rattle.sj_tool.proofs.LineLemmas.{made_of}
 use Rattle.sj_tool.proofs.NumberLemmas.{First, first_or_none, looks_or_none, one_line, options_or_none, workers_or_none}
 
-module _ (l : LineAt) where
+module _ (l : ArgumentsAt) where
   -- the line is a command of that name with a number from 1 on, or isn't
   abbrev IsCounted : List ℕ → ℕ → Type 0
   IsCounted name n = (l ≡ alone name (Some (decimal n))) × (1 ≤ n)
@@ -39,7 +39,7 @@ module _ (l : LineAt) where
   or_others (inr none) others = others none
 
   -- it is that line, or it isn't
-  asked_so : (t : Task) (line : LineAt) → (l ≡ line → Means l t) → Asked ⊎ (l ≡ line → ⊥)
+  asked_so : (t : Task) (line : ArgumentsAt) → (l ≡ line → Means l t) → Asked ⊎ (l ≡ line → ⊥)
   asked_so t line means = elim (one_line l line) [ yes e ↦ inl (t, means e) | no off ↦ inr off ]
 
   -- a command without a number and an option

@@ -24,7 +24,8 @@ use Rattle.sj_tool.specs.Entries.{IsDamageText, IsMisfitText}
 use Rattle.sj_tool.specs.Tasks.{AsksFor, Checks, HasInput, HasLongText, HasParts, IsUnread, Reads, Replays, RunsParties, Takes, Talks, limit_of}
 use Rattle.sj_tool.specs.Runs.{Plays, Prints}
 use Rattle.sj_tool.specs.TalkParts.{HasNoTalk}
-use Rattle.sj_tool.specs.Texts.{status_of, text_of, write_fault_status, no_memory_status}
+pub use Rattle.sj_text.specs.Statuses.{OrYields}
+use Rattle.sj_tool.specs.Texts.{status_of, text_of}
 
 -- the task plays a party of that number, which the file hasn't
 abbrev pub LacksParty : Task → ℕ → FileAt → Type 0
@@ -108,7 +109,3 @@ IsInTable c a = (h : HoldsFile c) × AnswersFile c.links h.task h.log h.file a
 -- the answer that comes is written after what was written before, and its status is answered
 abbrev pub Answers : CallAt → ℕ → Option (List ℕ) → Option (List ℕ) → AnswerAt → Type 0
 Answers c status before after a = (status ≡ status_of a) × (after ≡ put_behind before (text_of a))
-
--- it holds, unless a write failed or there was no memory
-abbrev pub OrYields : ℕ → Type 0 → Type 0
-OrYields status P = P ⊎ ((status ≡ write_fault_status) ⊎ (status ≡ no_memory_status))

@@ -1,36 +1,22 @@
 -- The status and the text of each answer.
 use Rattle.std.specs.Prelude.{◌≡◌, ℕ, List, [], ◌∷◌, ◌++◌, codes, decimal, length, ⊤}
+pub use Rattle.sj_text.specs.Statuses.{read_fault_status, too_large_status, write_fault_status, no_memory_status}
 use Rattle.sj_lang.specs.FileAt.{FileAt}
-use Rattle.sj_grammar.specs.declared.tokens.Rule.{Rule}
-use Rattle.sj_grammar.specs.declared.tokens.Rule.TheVariants.{P1, P2, P3, P4, P5}
+use Rattle.sj_grammar.specs.Rules.{rule_number}
 use Rattle.sj_semantics.specs.declared.Verdict.{Verdict}
 use Rattle.sj_semantics.specs.declared.Verdict.TheVariants.{Done, Blocked, Long}
 use Rattle.sj_semantics.specs.Transcript.{line_of}
 use Rattle.sj_tool.specs.AnswerAt.{AnswerAt, Usage, ReadFault, TooLarge, NoTalk, Syntax, Check, NoParty, LogFault, Misfit, LinkFault, Damaged, Ran, Printed, Made}
-
-abbrev pub rule_number : Rule → ℕ
-rule_number P1 = 1
-rule_number P2 = 2
-rule_number P3 = 3
-rule_number P4 = 4
-rule_number P5 = 5
 
 abbrev pub verdict_status : Verdict → ℕ
 verdict_status Done = 0
 verdict_status Blocked = 6
 verdict_status Long = 7
 
--- the answer couldn't be written; there was no memory for it
-abbrev pub write_fault_status : ℕ
-write_fault_status = 10
-
-abbrev pub no_memory_status : ℕ
-no_memory_status = 11
-
 abbrev pub status_of : AnswerAt → ℕ
 status_of Usage = 1
-status_of ReadFault = 2
-status_of TooLarge = 3
+status_of ReadFault = read_fault_status
+status_of TooLarge = too_large_status
 status_of (Syntax fault) = 4
 status_of (Check rule line) = 5
 status_of NoTalk = 12

@@ -3,7 +3,7 @@ ghost use Rattle.std.specs.Prelude.{◌≡◌, ◌<◌, IfOk, OnOk, Some, map};
 ghost use Rattle.sj_check.specs.Held.{file_in};
 ghost use Rattle.sj_end.specs.Lines.{event_at, line_at};
 ghost use Rattle.sj_lang.specs.FileView.{file_of};
-ghost use Rattle.sj_plain.specs.Kept.{without_words};
+ghost use Rattle.sj_plain.specs.SharedFile.{without_words};
 ghost use Rattle.sj_plain.specs.Plain.{acts_of, kept_file, world_at};
 ghost use Rattle.sj_rules.specs.Events.{acts_by};
 ghost use Rattle.sj_semantics.specs.Run.{IsRun, after_acts, end_of};

@@ -1,10 +1,10 @@
 //! What the top call answers.
 ghost use Rattle.std.specs.Prelude.{◌≡◌, IfOk};
 ghost use Rattle.sj_tool.specs.AnswerAt.{Check, LogFault, NoParty, Syntax, answer_at};
-ghost use Rattle.sj_tool.specs.Texts.{rule_number, status_of, text_of, verdict_status};
+ghost use Rattle.sj_tool.specs.Texts.{status_of, text_of, verdict_status};
 
 use sj_base::NoMemory;
-use sj_proto::{Fault, Rule};
+use sj_proto::Fault;
 use sj_semantics::Verdict;
 use sj_text::{put, put_number};
 use std::alloc::Global;
@@ -109,7 +109,7 @@ fn syntax_text(alloc: Global, fault: Fault) -> Result<Vec<u8>, NoMemory>
 {
     let mut text = Vec::new(alloc);
     put(&mut text, b"syntax P")?;
-    put_number(&mut text, number_of(fault.rule))?;
+    put_number(&mut text, u64::from(fault.rule.number()))?;
     put(&mut text, b" at ")?;
     put_number(&mut text, u64::from(fault.line))?;
     put(&mut text, b":")?;
@@ -150,16 +150,4 @@ fn log_fault_text(alloc: Global, rule: u8, at: u32) -> Result<Vec<u8>, NoMemory>
     put_number(&mut text, u64::from(at))?;
     put(&mut text, b"\n")?;
     Ok(text)
-}
-
-fn number_of(rule: Rule) -> u64
-    ensures { result ≡ rule_number rule }
-{
-    match rule {
-        Rule::P1 => 1,
-        Rule::P2 => 2,
-        Rule::P3 => 3,
-        Rule::P4 => 4,
-        Rule::P5 => 5,
-    }
 }

@@ -216,7 +216,7 @@ fn judge(alloc: Global, file: File) -> Result<Judged, NoMemory>
 {
     match check(alloc, file) {
         Ok(accepted) => Ok(Judged::Accepted(accepted)),
-        Err((_, CheckRefusal::At { rule, line })) => Ok(Judged::Fault(rule, line)),
+        Err((_, CheckRefusal::At { rule, line })) => Ok(Judged::Fault(rule.number(), line)),
         Err((_, CheckRefusal::NoMemory)) => Err(NoMemory),
     }
 }

@@ -24,7 +24,7 @@ use sj_base::{NoMemory, ReadRefusal, Source, read_all};
 use sj_command::task_in;
 use sj_generator::print_generated;
 use sj_lane::Links;
-use sj_log::{line_at, parted};
+use sj_log::{find_line, parted};
 use sj_party::parse_file;
 use sj_proto::ParseRefusal;
 use sj_work::Gate;
@@ -144,7 +144,7 @@ fn parted_talk(bytes: &[u8]) -> Option<(&[u8], &[u8])>
     ensures some { IfSome result (λ p. IsTalk bytes.now p.0.now p.1.now) }
     ensures none { result ≡ None → HasNoTalk bytes.now }
 {
-    match line_at(bytes, b"%%talk\n", b"\n%%talk\n") {
+    match find_line(bytes, b"%%talk\n", b"\n%%talk\n") {
         Some(at) => Some((&bytes[..at], &bytes[at + 7..])),
         None => None,
     }

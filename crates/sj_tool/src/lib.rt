@@ -21,4 +21,5 @@ mod talks;
 mod top;
 
 pub use laws::{the_table_gives_one_answer, the_table_has_an_answer};
-pub use top::{NO_MEMORY, sj};
+pub use sj_text::NO_MEMORY;
+pub use top::sj;

@@ -8,7 +8,7 @@ ghost use Rattle.sj_end.specs.Lines.{line_at};
 ghost use Rattle.sj_lang.specs.FileAt.{FileAt};
 ghost use Rattle.sj_lang.specs.FileView.{file_of};
 ghost use Rattle.sj_lang.specs.Limits.{limits};
-ghost use Rattle.sj_plain.specs.Kept.{without_words};
+ghost use Rattle.sj_plain.specs.SharedFile.{without_words};
 ghost use Rattle.sj_plain.specs.Plain.{acts_of, kept_file, world_at as plain_at};
 ghost use Rattle.sj_rules.specs.History.{IsHistory, IsQuietAmong};
 ghost use Rattle.sj_rules.specs.Party.{play_of};

@@ -5,7 +5,7 @@ ghost use Rattle.sj_core.specs.World.{history_of, kept_file, world_at};
 ghost use Rattle.sj_command.specs.declared.tasks.Task.{Task};
 ghost use Rattle.sj_lane.specs.Told.{Rose};
 ghost use Rattle.sj_lang.specs.FileView.{file_of};
-ghost use Rattle.sj_plain.specs.Kept.{without_words};
+ghost use Rattle.sj_plain.specs.SharedFile.{without_words};
 ghost use Rattle.sj_run.specs.Damage.{IsDamaged};
 ghost use Rattle.sj_run.specs.Refusals.{IsDamagedOver};
 ghost use Rattle.sj_tool.specs.LogAt.{LogAt};

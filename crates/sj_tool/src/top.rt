@@ -6,14 +6,10 @@ ghost use Rattle.sj_tool.specs.Calls.{call};
 use crate::inputs::answer_to;
 use sj_base::{NoMemory, Sink, Source, WriteFault, write_all_of};
 use sj_lane::Links;
+use sj_text::{NO_MEMORY, WRITE_FAULT};
 use sj_work::Gate;
 use std::alloc::Global;
 use std::thread::Threads;
-
-/// The status where the answer's text can't be written.
-const WRITE_FAULT: u8 = 10;
-/// The status where there is no memory.
-pub const NO_MEMORY: u8 = 11;
 
 /// Does what the words say with the input, writes the answer's text, and answers its status.
 ///

@@ -6,7 +6,7 @@ use Rattle.sj_lang.specs.FileAt.{FileAt}
 use Rattle.sj_lang.specs.Limits.{limits, file_limit}
 use Rattle.sj_grammar.specs.declared.tokens.Fault.{Fault}
 use Rattle.sj_grammar.specs.Positions.{start}
-use Rattle.sj_grammar.specs.Reading.{line_at}
+use Rattle.sj_grammar.specs.Reading.{line_number}
 use Rattle.sj_grammar.specs.Files.{IsFile}
 use Rattle.sj_grammar.specs.FileDues.{file_layer, file_due}
 use Rattle.sj_grammar.specs.Faults.{Stuck}
@@ -24,15 +24,15 @@ whole front token file is there = no_fault (with_token front token) file there.f
 
 -- the first fault stands elsewhere
 pub elsewhere : (front token : List ℕ) (f : Fault) → Stuck file_layer limits 0 (start (with_token front token) [] []) file_due f
-    → begins_line f (line_at front + 1) ≡ false → MayStand front token
+    → begins_line f (line_number front + 1) ≡ false → MayStand front token
 elsewhere front token f first off there =
     let same : f ≡ there.fault = one_fault (with_token front token) f there.fault first there.first in
-    let line : (f.line == (line_at front + 1)) ≡ true = eq-eqb f.line (line_at front + 1) (ap (λ g. g.line) same ∙ there.line) in
+    let line : (f.line == (line_number front + 1)) ≡ true = eq-eqb f.line (line_number front + 1) (ap (λ g. g.line) same ∙ there.line) in
     let column : (f.column == 1) ≡ true = eq-eqb f.column 1 (ap (λ g. g.column) same ∙ there.column) in
-    let on : begins_line f (line_at front + 1) ≡ true = λ i. line i && column i in
+    let on : begins_line f (line_number front + 1) ≡ true = λ i. line i && column i in
     let both : true ≡ false = sym on ∙ off in cc
 
 -- or it is there
 pub there : (front token : List ℕ) (f : Fault) → Stuck file_layer limits 0 (start (with_token front token) [] []) file_due f
-    → begins_line f (line_at front + 1) ≡ true → HasFaultThere front token
+    → begins_line f (line_number front + 1) ≡ true → HasFaultThere front token
 there front token f first on = record { fault = f; first = first; line = grind arith; column = grind arith }

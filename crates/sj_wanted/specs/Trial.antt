@@ -2,7 +2,7 @@
 use Rattle.std.specs.Prelude.{◌≡◌, ℕ, ◌+◌, ◌≤◌, ◌<◌, ◌⊎◌, Bool, true, false, ◌&&◌, ◌==◌, List, [], ◌∷◌, ◌++◌, length, codes}
 use Rattle.sj_grammar.specs.declared.tokens.Fault.{Fault}
 use Rattle.sj_lang.specs.Limits.{limits}
-use Rattle.sj_grammar.specs.Reading.{line_at}
+use Rattle.sj_grammar.specs.Reading.{line_number}
 use Rattle.sj_grammar.specs.Positions.{start}
 use Rattle.sj_grammar.specs.FileDues.{file_layer, file_due}
 use Rattle.sj_grammar.specs.Faults.{Stuck}
@@ -22,7 +22,7 @@ with_token front token = front ++ (codes "\n" ++ token)
 pub record HasFaultThere (front token : List ℕ) : Type 0 where
   pub fault : Fault
   pub first : Stuck file_layer limits 0 (start (with_token front token) [] []) file_due fault
-  pub line : fault.line ≡ line_at front + 1
+  pub line : fault.line ≡ line_number front + 1
   pub column : fault.column ≡ 1
 
 -- the fault is where that line begins

@@ -2,7 +2,7 @@
 #![tactic(auto, using(crate::proofs::TrialLemmas::short, crate::proofs::TrialLemmas::whole, crate::proofs::TrialLemmas::elsewhere, crate::proofs::TrialLemmas::there))]
 
 ghost use Rattle.std.specs.Prelude.{◌≡◌, ◌≤◌, ◌+◌, length, map, IfOk, IsTrue, false};
-ghost use Rattle.sj_grammar.specs.Reading.{line_at};
+ghost use Rattle.sj_grammar.specs.Reading.{line_number};
 ghost use Rattle.sj_wanted.specs.Trial.{MayStand, HasFaultThere, Tells, GoesOn, Halts, front_limit, token_limit, AreShort, with_token, begins_line};
 
 use sj_base::NoMemory;
@@ -53,7 +53,7 @@ fn begins(fault: Fault, line: u32) -> bool
 // The line at the end of the text.
 fn last_line(front: &[u8]) -> u32
     requires { length front.now ≤ front_limit }
-    ensures is { result ≡ line_at front.now }
+    ensures is { result ≡ line_number front.now }
     ensures few { result ≤ front_limit + 1 }
 {
     let mut line = 1u32;

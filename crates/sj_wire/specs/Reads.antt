@@ -1,7 +1,7 @@
 -- What a reader of the code answers is what reading gives.
 use Rattle.std.specs.Prelude.{◌≡◌, ℕ, ◌≤◌, List, length, drop, Option, Some, None, Result, Ok, Err, ⊤}
 use Rattle.sj_end.specs.Views.{frame_at}
-use Rattle.sj_end.specs.declared.wire.Frame.{Frame}
+use Rattle.sj_end.specs.declared.frames.Frame.{Frame}
 use Rattle.sj_wire.specs.Front.{Front, Cut, Refused, Whole, front_of}
 use Rattle.sj_wire.specs.declared.refusal.WireRefusal.{WireRefusal}
 use Rattle.sj_wire.specs.declared.refusal.WireRefusal.TheVariants as refusals

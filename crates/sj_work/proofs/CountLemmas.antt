@@ -2,7 +2,7 @@
 use Rattle.std.proofs.Common.{zero, suc, ◌≡◌, ℕ, ◌+◌, ◌≤◌, min, List, [], ◌∷◌, length, Option, Some, None, Result, Ok, Err, refl, sym, arith, subst}
 use Rattle.std.specs.Prelude.{slice_get}
 use Rattle.std.proofs.Math.ListN.{set}
-use Rattle.sj_end.specs.declared.wire.Frame.{Frame}
+use Rattle.sj_end.specs.declared.frames.Frame.{Frame}
 use Rattle.sj_lane.specs.declared.lane.PushRefusal.{PushRefusal}
 use Rattle.sj_lane.specs.declared.lane.PushRefusal.TheVariants as pushes
 use Rattle.sj_lane.specs.declared.lane.PopRefusal.{PopRefusal}

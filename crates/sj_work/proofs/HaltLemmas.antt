@@ -16,7 +16,7 @@ use Rattle.sj_node.specs.declared.node.Node.{Node}
 use Rattle.sj_node.specs.declared.refusal.Halt.{Halt}
 use Rattle.sj_node.specs.declared.refusal.Halt.TheVariants as halts
 use Rattle.sj_node.specs.Halts.{hold_up, names_awaited, stop_by, stop_wanting}
-use Rattle.sj_node.specs.Node.{node_at, offers_of, outbox_of, steps_of, stop_of, wants_of}
+use Rattle.sj_node.specs.Node.{node_at, offers_of, outbox_of, steps_of, node_halt, wants_of}
 use Rattle.sj_node.specs.Outs.{waiting_in}
 use Rattle.sj_node.specs.Play.{next_want}
 use Rattle.sj_node.specs.Reading.{IsFinished}
@@ -85,11 +85,11 @@ module _ {P R : Type 0} (f : P → R) where
 abbrev held_at_node : NodeAt Place Program → Option Halt
 held_at_node n = stop_by n.main n.requests n.offers n.program.steps (next_want n.program)
 
-stop_seen : (n : Node) → held_at_node (node_at n) ≡ stop_of n
+stop_seen : (n : Node) → held_at_node (node_at n) ≡ node_halt n
 stop_seen n = stop_with (place_in n.table) n.requests (offers_of n) (mains_in n.mains.items) (steps_of n) (wants_of n)
 
 -- nodes alike are held up alike
-pub stop_same : (a b : Node) → node_at b ≡ node_at a → stop_of b ≡ stop_of a
+pub stop_same : (a b : Node) → node_at b ≡ node_at a → node_halt b ≡ node_halt a
 stop_same a b same = sym (stop_seen b) ∙ ap held_at_node same ∙ stop_seen a
 
 -- a party goes on or is halted, and none is held up because it is out of memory
@@ -127,7 +127,7 @@ module _ {P : Type 0} (main : EndId → Option (MainAt P)) (requests : ℕ) (off
   by_halted steps (wants.Accept p from) = wanting_halted steps (wants.Accept p from)
   by_halted steps wants.Ended = inr tt
 
-pub goes_or_halts : (n : Node) → (stop_of n ≡ None) ⊎ IsHalted (stop_of n)
+pub goes_or_halts : (n : Node) → (node_halt n ≡ None) ⊎ IsHalted (node_halt n)
 goes_or_halts n = by_halted (mains_in n.mains.items) n.requests (offers_of n) (steps_of n) (wants_of n)
 
 none_before : {X Y : Type 0} (g : X → Y) (o : Option X) → option_map g o ≡ None → o ≡ None
@@ -155,11 +155,11 @@ refused_is : (h k : Halt) → Refused h k → h ≡ k
 refused_is h k e = cc e
 
 -- where an act is unfit, nothing holds the party up
-pub free_of : (n : Node) (h : Halt) → (stop_of n ≡ Some halts.Ended → Refused h halts.Ended) → (stop_of n ≡ Some halts.AtLimit → Refused h halts.AtLimit) → (stop_of n ≡ Some halts.Waits → Refused h halts.Waits)
-    → h ≡ halts.Unfit → stop_of n ≡ None
+pub free_of : (n : Node) (h : Halt) → (node_halt n ≡ Some halts.Ended → Refused h halts.Ended) → (node_halt n ≡ Some halts.AtLimit → Refused h halts.AtLimit) → (node_halt n ≡ Some halts.Waits → Refused h halts.Waits)
+    → h ≡ halts.Unfit → node_halt n ≡ None
 free_of n h ended limit waits unfit = go (goes_or_halts n)
   where
-    by : (o : Option Halt) → stop_of n ≡ o → IsHalted o → stop_of n ≡ None
+    by : (o : Option Halt) → node_halt n ≡ o → IsHalted o → node_halt n ≡ None
     by (Some halts.Ended) is halted = let e : halts.Ended ≡ halts.Unfit = sym (refused_is h halts.Ended (ended is)) ∙ unfit in absurd (cc e)
     by (Some halts.AtLimit) is halted = let e : halts.AtLimit ≡ halts.Unfit = sym (refused_is h halts.AtLimit (limit is)) ∙ unfit in absurd (cc e)
     by (Some halts.Waits) is halted = let e : halts.Waits ≡ halts.Unfit = sym (refused_is h halts.Waits (waits is)) ∙ unfit in absurd (cc e)
@@ -167,22 +167,22 @@ free_of n h ended limit waits unfit = go (goes_or_halts n)
     by (Some halts.Unfit) is halted = absurd halted
     by None is halted = absurd halted
 
-    go : (stop_of n ≡ None) ⊎ IsHalted (stop_of n) → stop_of n ≡ None
+    go : (node_halt n ≡ None) ⊎ IsHalted (node_halt n) → node_halt n ≡ None
     go (inl none) = none
-    go (inr halted) = by (stop_of n) refl halted
+    go (inr halted) = by (node_halt n) refl halted
 
 -- where the worker goes on after a refused act, the party is halted
-pub halted_by : (a b : Node) (h : Halt) (r : Option Outcome) → node_at b ≡ node_at a → (Refused h halts.Ended → stop_of a ≡ Some halts.Ended) → (Refused h halts.AtLimit → stop_of a ≡ Some halts.AtLimit)
-    → (Refused h halts.Waits → stop_of a ≡ Some halts.Waits) → SaysHalt b h r → stop_in r ≡ None → IsHalted (stop_of b)
+pub halted_by : (a b : Node) (h : Halt) (r : Option Outcome) → node_at b ≡ node_at a → (Refused h halts.Ended → node_halt a ≡ Some halts.Ended) → (Refused h halts.AtLimit → node_halt a ≡ Some halts.AtLimit)
+    → (Refused h halts.Waits → node_halt a ≡ Some halts.Waits) → SaysHalt b h r → stop_in r ≡ None → IsHalted (node_halt b)
 halted_by a b h r same ended limit waits says none = by h says ended limit waits
   where
-    so : (k : Halt) → IsHalted (Some k) → stop_of a ≡ Some k → IsHalted (stop_of b)
+    so : (k : Halt) → IsHalted (Some k) → node_halt a ≡ Some k → IsHalted (node_halt b)
     so k halted is = subst (λ (o : Option Halt). IsHalted o) (sym (stop_same a b same ∙ is)) halted
 
-    stopped : (answer : Outcome) → r ≡ Some answer → IsHalted (stop_of b)
+    stopped : (answer : Outcome) → r ≡ Some answer → IsHalted (node_halt b)
     stopped answer is = let e : Some (stop_at answer) ≡ None = sym (ap stop_in is) ∙ none in absurd (cc e)
 
-    by : (h : Halt) → SaysHalt b h r → (Refused h halts.Ended → stop_of a ≡ Some halts.Ended) → (Refused h halts.AtLimit → stop_of a ≡ Some halts.AtLimit) → (Refused h halts.Waits → stop_of a ≡ Some halts.Waits) → IsHalted (stop_of b)
+    by : (h : Halt) → SaysHalt b h r → (Refused h halts.Ended → node_halt a ≡ Some halts.Ended) → (Refused h halts.AtLimit → node_halt a ≡ Some halts.AtLimit) → (Refused h halts.Waits → node_halt a ≡ Some halts.Waits) → IsHalted (node_halt b)
     by halts.Ended says ended limit waits = so halts.Ended tt (ended refl)
     by halts.AtLimit says ended limit waits = so halts.AtLimit tt (limit refl)
     by halts.Waits says ended limit waits = so halts.Waits tt (waits refl)

@@ -4,7 +4,7 @@ use Rattle.std.specs.Prelude.{IsSome, is_some, slice_get}
 use Rattle.std.proofs.Math.ListN.{set}
 use Rattle.sj_lang.specs.Place.{Place, done}
 use Rattle.sj_table.specs.Spots.{place_in}
-use Rattle.sj_end.specs.declared.wire.Frame.{Frame}
+use Rattle.sj_end.specs.declared.frames.Frame.{Frame}
 use Rattle.sj_end.specs.Views.{frame_at}
 use Rattle.sj_rules.specs.Frames.{FrameAt, is_proper}
 use Rattle.sj_rules.specs.Limits.{clock_end}

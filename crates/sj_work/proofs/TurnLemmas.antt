@@ -4,7 +4,7 @@ use Rattle.std.specs.Prelude.{IsSome, slice_get}
 use Rattle.std.proofs.Math.ListN.{set}
 use Rattle.sj_lang.specs.Place.{Place}
 use Rattle.sj_table.specs.Spots.{start_in}
-use Rattle.sj_end.specs.declared.wire.Frame.{Frame}
+use Rattle.sj_end.specs.declared.frames.Frame.{Frame}
 use Rattle.sj_rules.specs.Limits.{clock_end}
 use Rattle.sj_rules.specs.Node.{acts}
 use Rattle.sj_rules.specs.Work.{LostAt}

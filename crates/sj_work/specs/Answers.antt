@@ -3,7 +3,7 @@ use Rattle.std.specs.Prelude.{◌≡◌, ℕ, ◌+◌, max, Option, Some, None, 
 use Rattle.sj_lang.specs.Place.{Place}
 use Rattle.sj_end.specs.declared.note.Event.TheVariants as events
 use Rattle.sj_end.specs.declared.note.Line.{Line}
-use Rattle.sj_end.specs.declared.wire.Frame.{Frame}
+use Rattle.sj_end.specs.declared.frames.Frame.{Frame}
 use Rattle.sj_end.specs.Views.{frame_at, note_at}
 use Rattle.sj_rules.specs.Frames.{FrameAt}
 use Rattle.sj_lane.specs.declared.lane.PushRefusal.{PushRefusal}

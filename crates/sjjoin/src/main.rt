@@ -12,7 +12,7 @@ use sj_lane::RingLinks;
 use sj_remote::{Conn, TalkRefusal};
 use sj_semantics::Verdict;
 use sj_streams::Refusal;
-use sj_text::{put, put_number};
+use sj_text::{NO_MEMORY, WRITE_FAULT, put, put_number};
 use sj_tool::sj;
 use sj_work::NoGate;
 use std::env;
@@ -36,22 +36,22 @@ enum Answer {
 fn main(rt: HostRuntime) -> ExitCode {
     let words = match words_of(&rt) {
         Ok(words) => words,
-        Err(NoMemory) => return ExitCode::from(11),
+        Err(NoMemory) => return ExitCode::from(NO_MEMORY),
     };
     let answer = match answer_to(&rt, &words) {
         Ok(answer) => answer,
-        Err(NoMemory) => return ExitCode::from(11),
+        Err(NoMemory) => return ExitCode::from(NO_MEMORY),
     };
     let mut out = WriteSink::new(rt.stdout());
     match answer {
         Answer::Said(status, text) => match write_all_of(&mut out, &text) {
             Ok(()) => ExitCode::from(status),
-            Err(_) => ExitCode::from(10),
+            Err(_) => ExitCode::from(WRITE_FAULT),
         },
         Answer::Replay { source, log } => {
             let words = match replay_words(&rt, log) {
                 Ok(words) => words,
-                Err(NoMemory) => return ExitCode::from(11),
+                Err(NoMemory) => return ExitCode::from(NO_MEMORY),
             };
             let mut src = MemSource::new(source, Vec::new(rt.alloc()));
             let mut links = RingLinks::new();

@@ -6,31 +6,12 @@ ghost use Rattle.sj_lang.specs.FileView.{file_of};
 use crate::statuses::Why;
 use sj_base::{ReadRefusal, Source, read_all};
 use sj_check::{Accepted, CheckRefusal, check};
-use sj_party::{Fault, ParseRefusal, Rule, parse_file};
+use sj_party::{ParseRefusal, parse_file};
 use sj_remote_run::PlayRefusal;
 use std::alloc::Global;
 
 /// The most bytes of a file.
 const LONGEST: usize = 65_536;
-
-fn number_of(rule: Rule) -> u64 {
-    match rule {
-        Rule::P1 => 1,
-        Rule::P2 => 2,
-        Rule::P3 => 3,
-        Rule::P4 => 4,
-        Rule::P5 => 5,
-    }
-}
-
-/// The fault of a file that is outside the grammar.
-fn syntax(fault: Fault) -> Why {
-    Why::Syntax {
-        rule: number_of(fault.rule),
-        line: fault.line,
-        column: fault.column,
-    }
-}
 
 /// The accepted file that the source gives.
 pub(crate) fn accepted_in<S: Source>(alloc: Global, src: &mut S) -> Result<Accepted, Why> {
@@ -42,7 +23,7 @@ pub(crate) fn accepted_in<S: Source>(alloc: Global, src: &mut S) -> Result<Accep
     };
     let file = match parse_file(alloc, &text) {
         Ok(file) => file,
-        Err(ParseRefusal::At(fault)) => return Err(syntax(fault)),
+        Err(ParseRefusal::At(fault)) => return Err(Why::Syntax(fault)),
         Err(ParseRefusal::NoMemory) => return Err(Why::Refused(PlayRefusal::NoMemory)),
     };
     match check(alloc, file) {

@@ -1,5 +1,6 @@
 //! How a call ends: its last line, and its status.
 use sj_check::CheckRefusal;
+use sj_party::Fault;
 use sj_remote_run::{Outcome, PlayRefusal};
 use thiserror::Error;
 
@@ -13,8 +14,8 @@ pub(crate) enum Why {
     #[error("too large")]
     TooLarge,
     /// The input is no file of the grammar.
-    #[error("syntax P{rule} at {line}:{column}")]
-    Syntax { rule: u64, line: u32, column: u32 },
+    #[error("syntax {0}")]
+    Syntax(Fault),
     /// The file isn't accepted.
     #[error("check {0}")]
     Check(CheckRefusal),
@@ -58,7 +59,7 @@ pub(crate) fn status_by(why: Why) -> u8 {
         Why::Usage => 1,
         Why::ReadFault => 2,
         Why::TooLarge => 3,
-        Why::Syntax { .. } => 4,
+        Why::Syntax(_) => 4,
         Why::Check(_) => 5,
         Why::NoParty => 14,
         Why::Refused(refusal) => status_for(refusal),

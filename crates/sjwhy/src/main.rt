@@ -3,13 +3,10 @@
 #![tactic(auto)]
 
 use sj_base::{NoMemory, ReadSource, WriteSink};
-use sj_explain::explain;
+use sj_explain::{NO_MEMORY, explain};
 use std::env;
 use std::io::ErrorKind;
 use std::process::ExitCode;
-
-/// The status where there is no memory for the words.
-const NO_MEMORY: u8 = 11;
 
 fn main(rt: HostRuntime) -> ExitCode {
     let words = match words_of(&rt) {

@@ -9,7 +9,7 @@ use Rattle.sj_node.specs.declared.refusal.DeliverRefusal.{DeliverRefusal}
 use Rattle.sj_node.specs.declared.refusal.Halt.{Halt}
 use Rattle.sj_node.specs.declared.refusal.Halt.TheVariants as halts
 use Rattle.sj_node.specs.declared.refusal.DeliverRefusal.TheVariants as refusals
-use Rattle.sj_node.specs.Node.{Does, Stays, act_of, has_room, is_refused, log_of, stop_of}
+use Rattle.sj_node.specs.Node.{Does, Stays, act_of, has_room, is_refused, log_of, node_halt}
 use Rattle.sj_node.specs.Play.{next_want, play_with}
 use Rattle.sj_rules.specs.Node.{NodeAt, acts}
 use Rattle.sj_rules.specs.Rows.{Worked}
@@ -35,8 +35,8 @@ act_same : (a b : Node) → Stays a b → act_of b ≡ act_of a
 act_same a b s = λ i. if has_room (s.node i).main (next_want (s.node i).program) then acts (play_with (start_in (s.table i)) (s.connects i) (s.parties i)) (s.party i) (s.node i) else None
 
 -- a refused act changes nothing, so its cause is there after it
-pub stopped_so : (a b : Node) (h : Halt) → Stays a b → (h ≡ halts.Unfit → act_of a ≡ None) → (h ≡ halts.Ended → stop_of a ≡ Some halts.Ended) → (h ≡ halts.AtLimit → stop_of a ≡ Some halts.AtLimit)
-    → (h ≡ halts.Waits → stop_of a ≡ Some halts.Waits) → StopsFor b h
+pub stopped_so : (a b : Node) (h : Halt) → Stays a b → (h ≡ halts.Unfit → act_of a ≡ None) → (h ≡ halts.Ended → node_halt a ≡ Some halts.Ended) → (h ≡ halts.AtLimit → node_halt a ≡ Some halts.AtLimit)
+    → (h ≡ halts.Waits → node_halt a ≡ Some halts.Waits) → StopsFor b h
 stopped_so a b halts.Ended s unfit ended at_limit waits = stop_same a b s.node ∙ ended refl
 stopped_so a b halts.AtLimit s unfit ended at_limit waits = stop_same a b s.node ∙ at_limit refl
 stopped_so a b halts.Waits s unfit ended at_limit waits = stop_same a b s.node ∙ waits refl

@@ -6,7 +6,7 @@ use Rattle.sj_end.specs.Lines.{line_at}
 use Rattle.sj_end.specs.declared.note.Line.{Line}
 use Rattle.sj_lang.specs.FileAt.{FileAt}
 use Rattle.sj_lang.specs.Place.{Place}
-use Rattle.sj_plain.specs.Kept.{without_words}
+use Rattle.sj_plain.specs.SharedFile.{without_words}
 use Rattle.sj_rules.specs.Drain.{IsDrained}
 use Rattle.sj_rules.specs.History.{IsHistory, IsQuietAmong, turn_of}
 use Rattle.sj_rules.specs.Log.{LineAt}

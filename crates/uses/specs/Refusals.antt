@@ -2,6 +2,7 @@
 use Rattle.std.specs.Prelude.{◌≡◌, ℕ, List, [], Some, ⊤}
 use Rattle.sj_acceptance.specs.Faults.{first_fault}
 use Rattle.sj_acceptance.specs.FileTests.{tests_of}
+use Rattle.sj_check.specs.Rules.{number_of}
 use Rattle.sj_check.specs.declared.refusal.CheckRefusal.{CheckRefusal}
 use Rattle.sj_check.specs.declared.refusal.CheckRefusal.TheVariants as checks
 use Rattle.sj_grammar.specs.Faults.{Stuck}
@@ -39,5 +40,5 @@ pub record BreaksRule (text : List ℕ) (rule line : ℕ) : Type 0 where
 -- why the text has no accepted file; out of memory may come at any time
 abbrev pub IsRefusalOf : List ℕ → TextRefusal → Type 0
 IsRefusalOf text (refusals.At f) = IsFirstFault text f
-IsRefusalOf text (refusals.Breaks rule line) = BreaksRule text rule line
+IsRefusalOf text (refusals.Breaks rule line) = BreaksRule text (number_of rule) line
 IsRefusalOf text refusals.NoMemory = ⊤

@@ -154,7 +154,7 @@ pub struct DequeLinks;
 
 impl Links for DequeLinks {
     ghost use Rattle.std.specs.Prelude.{◌≡◌, ◌≤◌, ℕ, [], false, true};
-    ghost use Rattle.sj_lane.specs.Square.{AllJoined, HasFault, IsSquare, Kept, NoFault};
+    ghost use Rattle.sj_lane.specs.Square.{AllJoined, HasFault, IsSquare, KeepsLists, NoFault};
     ghost use Rattle.sj_lane.specs.Told.{Rose};
 
     type Out = DequeOut;
@@ -203,7 +203,7 @@ impl Links for DequeLinks {
     fn back(&mut self, lanes: Vec<Lanes<DequeOut, DequeIn>>)
         requires square { IsSquare lanes.items }
         requires joined { AllJoined (λ (o : _) (i : _). Unit {0}) lanes.items }
-        ensures kept { false ≡ true → Kept ⟦<DequeOut as OutLane>⟧.pushed
+        ensures kept { false ≡ true → KeepsLists ⟦<DequeOut as OutLane>⟧.pushed
             ⟦<DequeIn as InLane>⟧.popped ⟦<DequeOut as OutLane>⟧.vain ⟦<DequeIn as InLane>⟧.vain
             lanes.items (λ _ _. []) (λ _ _. []) (λ _ _. 0) (λ _ _. 0) }
         ensures tells { false ≡ false }

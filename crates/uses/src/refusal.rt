@@ -1,5 +1,5 @@
 //! Why a text has no accepted file.
-use porcharnica::{CheckRefusal, Fault, File, NoMemory, ParseRefusal};
+use porcharnica::{CheckRefusal, CheckRule, Fault, File, NoMemory, ParseRefusal};
 use thiserror::Error;
 
 /// Why a text has no accepted file, in the order of refusals.
@@ -9,8 +9,8 @@ pub enum TextRefusal {
     #[error("no file: line {}, column {}", .0.line, .0.column)]
     At(Fault),
     /// Its file breaks that rule first, on that line.
-    #[error("C{rule} at {line}")]
-    Breaks { rule: u8, line: u32 },
+    #[error("C{} at {line}", .rule.number())]
+    Breaks { rule: CheckRule, line: u32 },
     #[error("no memory")]
     NoMemory,
 }

@@ -4,7 +4,7 @@ ghost use Rattle.sj_check.specs.Held.{file_in};
 ghost use Rattle.sj_core.specs.World.{history_of, kept_file, world_at};
 ghost use Rattle.sj_lane.specs.Told.{Rose};
 ghost use Rattle.sj_lang.specs.FileView.{file_of};
-ghost use Rattle.sj_plain.specs.Kept.{without_words};
+ghost use Rattle.sj_plain.specs.SharedFile.{without_words};
 ghost use Rattle.sj_rules.specs.Events.{acts_in};
 ghost use Rattle.sj_rules.specs.History.{IsHistory, IsQuietAmong, turn_of};
 ghost use Rattle.sj_rules.specs.Party.{play_of};

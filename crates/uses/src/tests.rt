@@ -3,7 +3,7 @@ use crate::{
     DequeLinks, Ran, TalkRefusal, TextRefusal, accepted_in, act_on, can_talk, carry, ending_of,
     run_file, transcript_in,
 };
-use porcharnica::{Accepted, Fault, Halt, RingLinks, Rule, Verdict, first_nodes};
+use porcharnica::{Accepted, CheckRule, Fault, Halt, RingLinks, Rule, Verdict, first_nodes};
 use std::alloc::Global;
 use std::test::Fail;
 
@@ -40,7 +40,10 @@ fn a_text_has_its_transcript(rt: HostRuntime) -> Result<(), Fail> {
     let wanted = b"session 0 a x b y\n0.0 0 a b int 5\nparty a ended 2\nparty b ended 2\ndone\n";
     assert_eq!(rt; text.as_slice(), wanted.as_slice());
     let breaks = b"protocol p { begin } party a { close x; }";
-    let refusal = TextRefusal::Breaks { rule: 5, line: 1 };
+    let refusal = TextRefusal::Breaks {
+        rule: CheckRule::NotThere,
+        line: 1,
+    };
     assert_eq!(rt; transcript_in(rt.alloc(), breaks).err(), Some(refusal));
     let fault = Fault {
         rule: Rule::P1,

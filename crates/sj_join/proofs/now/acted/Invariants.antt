@@ -1,7 +1,7 @@
 use Rattle.std.proofs.Common.{◌≡◌}
 use Rattle.sj_check.specs.Held.{file_in as held}
 use Rattle.sj_lang.specs.FileView.{file_of}
-use Rattle.sj_plain.specs.Kept.{without_words}
+use Rattle.sj_plain.specs.SharedFile.{without_words}
 use Rattle.sj_plain.specs.Plain.{acts_of, kept_file, world_at}
 use Rattle.sj_semantics.specs.Run.{IsRun}
 use Rattle.sj_join.proofs.now.acted.Given as goal

@@ -1,5 +1,5 @@
 use Rattle.std.proofs.Common.{◌≡◌, ◌<◌, ◌≤◌, ℕ, length, get_or}
-use Rattle.sj_end.specs.declared.wire.Post.{Post}
+use Rattle.sj_end.specs.declared.frames.Post.{Post}
 use Rattle.sj_node.specs.Outs.{room_in, waiting_in}
 use Rattle.sj_node.proofs.handovers.make_rooms.Given as goal
 

@@ -12,7 +12,7 @@ use Rattle.sj_rules.specs.Mapped.{old_with}
 use Rattle.sj_rules.specs.Start.{first_main, first_node}
 use Rattle.sj_rules.specs.Record.{OldAt}
 use Rattle.sj_node.specs.declared.slots.Old.{Old}
-use Rattle.sj_node.specs.Offers.{offers_in}
+use Rattle.sj_offers.specs.Offers.{offers_in}
 use Rattle.sj_node.specs.Play.{play_with}
 use Rattle.sj_node.specs.Slots.{look, old_at}
 use Rattle.sj_node.specs.Starting.{slot_at_places}

@@ -5,7 +5,7 @@ use Rattle.std.proofs.collections.VecDeque.TheSendSync as deque
 use Rattle.std.proofs.option.Option.TheSendSync as option
 use Rattle.std.proofs.alloc.Global.TheSendSync as global
 use Rattle.std.below.std_heap.proofs.GlobalAllocator.TheSendSync as frees
-use Rattle.sj_end.proofs.wire.Frame.TheSendSync as frame
+use Rattle.sj_end.proofs.frames.Frame.TheSendSync as frame
 use Rattle.sj_end.proofs.note.Entry.TheSendSync as entry
 use Rattle.sj_node.proofs.slots.Main.TheSendSync as main
 use Rattle.sj_node.proofs.slots.Old.TheSendSync as old

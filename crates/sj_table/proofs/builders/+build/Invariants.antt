@@ -22,9 +22,9 @@ decreases-add_arms l = 4 * choices_size l.choice.now
 abbrev pub invariant-add_place-loop-at : goal.invariant-add_place-loop-at
 invariant-add_place-loop-at l = record {
   within : l.at ≤ length l.place-inside.items.items;
-  leads : Leads (places_of l.stops.items) l.node (place_of (drop l.at l.place-inside.items.items)) (at_node (places_of l.fn.stops.items) l.next);
-  grown : Grown l.fn.stops.items l.stops.items;
-  count : length l.stops.items ≡ length l.fn.stops.items + node_count (place_of (drop l.at l.place-inside.items.items));
+  leads : Leads (places_of l.rows.items) l.node (place_of (drop l.at l.place-inside.items.items)) (at_node (places_of l.fn.rows.items) l.next);
+  grown : Grown l.fn.rows.items l.rows.items;
+  count : length l.rows.items ≡ length l.fn.rows.items + node_count (place_of (drop l.at l.place-inside.items.items));
 }
 
 abbrev pub decreases-add_place-loop-at : goal.decreases-add_place-loop-at
@@ -33,8 +33,8 @@ decreases-add_place-loop-at l = l.at
 -- the nodes of the first arms are there
 abbrev pub invariant-add_arms-loop-arm : goal.invariant-add_arms-loop-arm
 invariant-add_arms-loop-arm l = record {
-  entered : AreEntered (places_of l.stops.items) (choices_of (take l.arm-index l.arm-items)) (at_node (places_of l.fn.stops.items) l.next) l.inside.items;
+  entered : AreEntered (places_of l.rows.items) (choices_of (take l.arm-index l.arm-items)) (at_node (places_of l.fn.rows.items) l.next) l.inside.items;
   long : length l.inside.items ≡ l.arm-index;
-  grown : Grown l.fn.stops.items l.stops.items;
-  count : length l.stops.items ≡ length l.fn.stops.items + arm_nodes (choices_of (take l.arm-index l.arm-items));
+  grown : Grown l.fn.rows.items l.rows.items;
+  count : length l.rows.items ≡ length l.fn.rows.items + arm_nodes (choices_of (take l.arm-index l.arm-items));
 }

@@ -7,5 +7,5 @@ use Rattle.sj_table.proofs.comparisons.node_stands_for.Given as goal
 -- what is left can stand just where the whole can
 abbrev pub invariant-loop-item : goal.invariant-loop-item
 invariant-loop-item l =
-    let places = places_of l.stops in
+    let places = places_of l.rows in
     stands_for (at_node places l.at) (place_of (drop l.item-index l.items)) ≡ stands_for (at_node places l.node) (place_of l.items)

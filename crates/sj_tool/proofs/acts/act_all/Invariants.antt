@@ -2,7 +2,7 @@ use Rattle.std.proofs.Common.{◌≡◌, Some, drop, map}
 use Rattle.sj_check.specs.Held.{file_in}
 use Rattle.sj_end.specs.Lines.{line_at}
 use Rattle.sj_lang.specs.FileView.{file_of}
-use Rattle.sj_plain.specs.Kept.{without_words}
+use Rattle.sj_plain.specs.SharedFile.{without_words}
 use Rattle.sj_plain.specs.Plain.{acts_of, kept_file, world_at}
 use Rattle.sj_semantics.specs.Run.{IsRun, after_acts, end_of}
 use Rattle.sj_tool.specs.Runs.{actors}

@@ -6,7 +6,7 @@ use Rattle.sj_end.specs.Lines.{line_at}
 use Rattle.sj_lang.specs.FileAt.{FileAt}
 use Rattle.sj_lang.specs.FileView.{file_of}
 use Rattle.sj_lang.specs.declared.file.File.{File}
-use Rattle.sj_plain.specs.Kept.{without_words}
+use Rattle.sj_plain.specs.SharedFile.{without_words}
 use Rattle.sj_plain.specs.Plain as plain
 use Rattle.sj_rules.specs.Log.{LineAt}
 use Rattle.sj_semantics.specs.Run.{IsRun, end_of}

@@ -6,7 +6,7 @@ use Rattle.sj_end.specs.Lines.{line_at}
 use Rattle.sj_lang.specs.FileAt.{FileAt}
 use Rattle.sj_lang.specs.FileView.{file_of}
 use Rattle.sj_lang.specs.declared.file.File.{File}
-use Rattle.sj_plain.specs.Kept.{file_kept, without_words}
+use Rattle.sj_plain.specs.SharedFile.{file_kept, without_words}
 use Rattle.sj_rules.specs.Start.{core_start}
 use Rattle.sj_core.specs.Nodes.{AreFirst}
 use Rattle.sj_core.proofs.BeginLemmas.{begins, reached_first}

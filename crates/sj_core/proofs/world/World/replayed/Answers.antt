@@ -2,7 +2,7 @@ use Rattle.std.proofs.Common.{◌≡◌, map, ◌∙◌}
 use Rattle.sj_check.specs.Held.{file_in as held}
 use Rattle.sj_end.specs.Lines.{line_at}
 use Rattle.sj_lang.specs.FileView.{file_of}
-use Rattle.sj_plain.specs.Kept.{without_words}
+use Rattle.sj_plain.specs.SharedFile.{without_words}
 use Rattle.sj_core.specs.NodeWorld.{file_in, history_in, world_in}
 use Rattle.sj_core.proofs.FirstLemmas.{history_same, misfit_kept}
 use Rattle.sj_core.proofs.world.World.replayed.Goals as goal

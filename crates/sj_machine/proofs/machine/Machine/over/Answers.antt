@@ -1,7 +1,7 @@
 use Rattle.std.proofs.Common.{◌≡◌, ◌≤◌, vec_capacity, ℕ, List, length, arith, sym, subst}
 use Rattle.std.proofs.lemmas.Grind.{common_steps}
 use Rattle.sj_base.specs.declared.EndId.{EndId}
-use Rattle.sj_machine.specs.declared.arena.Node.{Node}
+use Rattle.sj_machine.specs.declared.arena.CodeNode.{CodeNode}
 use Rattle.sj_machine.specs.Names.{AllBindBelow, AreNamedOnce}
 use Rattle.sj_machine.proofs.FrameLemmas.{fits_first}
 use Rattle.sj_machine.proofs.NameLemmas.{once_from}
@@ -9,7 +9,7 @@ use Rattle.sj_machine.proofs.machine.Machine.over.Goals as goal
 
 pub invariant_of-result : goal.invariant_of-result
 invariant_of-result c =
-    let nodes : List Node = c.add_block.new.nodes.items in
+    let nodes : List CodeNode = c.add_block.new.nodes.items in
     let names : ℕ = c.names_above-names.result in
     let size : names ≡ length c.in_ok-vars.vars.items = sym c.in_ok-vars.ensures.size in
     record {

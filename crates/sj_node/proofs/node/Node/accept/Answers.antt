@@ -5,7 +5,7 @@ use Rattle.sj_rules.specs.Record.{offered_end}
 use Rattle.sj_table.specs.Spots.{place_in}
 use Rattle.sj_node.specs.Calls.{place_here}
 use Rattle.sj_node.specs.Node.{offers_of, spot_node}
-use Rattle.sj_node.specs.Offers.{offering, offers_in}
+use Rattle.sj_offers.specs.Offers.{offering, offers_in}
 use Rattle.sj_node.specs.Outs.{waiting_in}
 use Rattle.sj_node.specs.Slots.{mains_in}
 use Rattle.sj_node.proofs.ActLemmas.{does_with, stays}

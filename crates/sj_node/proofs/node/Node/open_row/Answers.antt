@@ -4,9 +4,9 @@ use Rattle.sj_rules.specs.Record.{Held, offered_end}
 use Rattle.sj_rules.specs.Node.{put, quietly, with_main, with_offers}
 use Rattle.sj_rules.specs.Opened.{is_opened_by, new_held}
 use Rattle.sj_node.specs.Node.{offers_of, spot_node}
-use Rattle.sj_node.specs.Offers.{offering, offers_in}
+use Rattle.sj_offers.specs.Offers.{offering, offers_in}
 use Rattle.sj_node.specs.Slots.{mains_in, olds_in}
-use Rattle.sj_node.proofs.OfferLemmas.{was_ok}
+use Rattle.sj_node.proofs.OpeningLemmas.{was_ok}
 use Rattle.sj_node.proofs.node.Node.open_row.Goals as goal
 
 pub returns-clause-ok : goal.returns-clause-ok

@@ -6,7 +6,7 @@ use Rattle.sj_end.specs.Lines.{line_at}
 use Rattle.sj_lang.specs.FileView.{file_of}
 use Rattle.sj_lang.specs.declared.file.File.{File}
 use Rattle.sj_node.specs.declared.node.Node.{Node}
-use Rattle.sj_plain.specs.Kept.{file_kept, without_words}
+use Rattle.sj_plain.specs.SharedFile.{file_kept, without_words}
 use Rattle.sj_table.specs.Spots.{start_in}
 use Rattle.sj_table.specs.declared.table.Table.{Table}
 use Rattle.sj_seat.specs.Places.{CarriesPlaces}
