@@ -1,5 +1,6 @@
 pub mod ArmLemmas
 pub mod BodyLemmas
+pub mod ConnectLemmas
 pub mod FaultLemmas
 pub mod IfLemmas
 pub mod ItemLemmas

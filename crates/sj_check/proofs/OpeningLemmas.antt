@@ -20,7 +20,7 @@ use Rattle.sj_check.proofs.FaultLemmas.{behind, Tells-front}
 
 -- ---- lists
 
-mapped : {X Y : Type 0} (f : X → Y) (xs ys : List X) → map f (xs ++ ys) ≡ (map f xs ++ map f ys)
+pub mapped : {X Y : Type 0} (f : X → Y) (xs ys : List X) → map f (xs ++ ys) ≡ (map f xs ++ map f ys)
 mapped f [] ys = refl
 mapped f (x ∷ xs) ys = ap (λ zs. f x ∷ zs) (mapped f xs ys)
 
@@ -35,7 +35,7 @@ zip_push R [] (_ ∷ _) x y h r = absurd h
 zip_push R (_ ∷ _) [] x y h r = absurd h
 zip_push R (a ∷ xs) (b ∷ ys) x y h r = (h.0, zip_push R xs ys x y h.1 r)
 
-take_next : {X : Type 0} (xs : List X) (i : ℕ) (x : X) → i < length xs → take (suc i) xs ≡ (take i xs ++ get_or xs i x ∷ [])
+pub take_next : {X : Type 0} (xs : List X) (i : ℕ) (x : X) → i < length xs → take (suc i) xs ≡ (take i xs ++ get_or xs i x ∷ [])
 take_next [] i x lt = absurd (omega arith)
 take_next (y ∷ xs) zero x lt = refl
 take_next (y ∷ xs) (suc i) x lt = ap (λ zs. y ∷ zs) (take_next xs i x (omega arith))

@@ -146,7 +146,11 @@ fn add_op(alloc: Global, nodes: &mut Vec<CodeNode>, deed: &Deed) -> Result<Op, N
 }
 
 #[cycle(build)]
-fn add_arms(alloc: Global, nodes: &mut Vec<CodeNode>, arms: &[StmtArm]) -> Result<Vec<ArmAt>, NoMemory>
+fn add_arms(
+    alloc: Global,
+    nodes: &mut Vec<CodeNode>,
+    arms: &[StmtArm],
+) -> Result<Vec<ArmAt>, NoMemory>
     requires { IsBackward 0 nodes.old.items }
     ensures arms { IfOk result (λ out.
         arms_in (codes_of nodes.new.items) out.items ≡ branches_of (map arm_of arms.now)) }

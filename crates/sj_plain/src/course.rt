@@ -20,8 +20,8 @@ ghost use Rattle.sj_semantics.specs.declared.Want.TheVariants.{Ended};
 
 use crate::Halt;
 use crate::ends::Session;
-use crate::shared_file::SharedFile;
 use crate::progress::step;
+use crate::shared_file::SharedFile;
 use sj_base::NoMemory;
 use sj_check::Accepted;
 use sj_lang::{Connect, File};

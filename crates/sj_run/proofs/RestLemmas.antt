@@ -62,16 +62,16 @@ one_vain looks vain rose = omega (arith, rose)
 
 -- a node that has ended or is at its limit doesn't wait by the rules of its file
 module _ (file : FileAt) (p : ℕ) (n : Node) where
-  stopped_still : (h : Halt) → nodes.stop_of n ≡ Some h → acts (play_of file) p (node_at n) ≡ None
+  stopped_still : (h : Halt) → nodes.node_halt n ≡ Some h → acts (play_of file) p (node_at n) ≡ None
   stopped_still h is = halted (place_in n.table) (length file.parties) file.protocols p (spot_node n) h is
 
-  stopped_halted : (h : Halt) → nodes.stop_of n ≡ Some h → HasCause (halt_of (play_of file) (node_at n))
+  stopped_halted : (h : Halt) → nodes.node_halt n ≡ Some h → HasCause (halt_of (play_of file) (node_at n))
   stopped_halted h is = has_cause (place_in n.table) file.protocols (spot_node n) h (length file.parties) is
 
-  not_waiting : (h : Halt) → (h ≡ halts.Waits → ⊥) → nodes.stop_of n ≡ Some h → IsWaiting (halt_of (play_of file) (node_at n)) → ⊥
+  not_waiting : (h : Halt) → (h ≡ halts.Waits → ⊥) → nodes.node_halt n ≡ Some h → IsWaiting (halt_of (play_of file) (node_at n)) → ⊥
   not_waiting h other is = waits_not (place_in n.table) file.protocols (spot_node n) h other (length file.parties) is
 
-  has_ended : IsFinished n → nodes.stop_of n ≡ Some halts.Ended
+  has_ended : IsFinished n → nodes.node_halt n ≡ Some halts.Ended
   has_ended f = ap (stop_by (spot_node n).main (requests_of n) (offers_of n) (steps_of n)) f.ended
 
 ended_waits : halts.Ended ≡ halts.Waits → ⊥
@@ -130,12 +130,12 @@ module _ {O I : Type 0} (outward : OutLane O) (inward : InLane I) (file : FileAt
     }
     rest_by (Some stops.Idle) is c = record {
       still =
-          elim (idle_cause (nodes.stop_of (node_of w)) c.idle) [
+          elim (idle_cause (nodes.node_halt (node_of w)) c.idle) [
             | inl e ↦ stopped_still file p (node_of w) halts.Ended e
             | inr e ↦ stopped_still file p (node_of w) halts.Waits e
           ];
       halted =
-          elim (idle_cause (nodes.stop_of (node_of w)) c.idle) [
+          elim (idle_cause (nodes.node_halt (node_of w)) c.idle) [
             | inl e ↦ stopped_halted file p (node_of w) halts.Ended e
             | inr e ↦ stopped_halted file p (node_of w) halts.Waits e
           ];

@@ -6,7 +6,7 @@ ghost use Rattle.sj_lane.specs.Told.{Rose};
 ghost use Rattle.sj_socket.specs.Counts.{capped_sum, faults_make, met};
 ghost use Rattle.sj_socket.specs.Idle.{AreIdle};
 ghost use Rattle.sj_socket.specs.Joined.{AreLinks, IsJoined};
-ghost use Rattle.sj_socket.specs.KeepsLists.{AreCarried, uncounted, untold};
+ghost use Rattle.sj_socket.specs.Kept.{AreCarried, uncounted, untold};
 ghost use Rattle.sj_socket.specs.Own.{own_came, own_sent};
 
 use crate::carries::carry_all;

@@ -119,7 +119,7 @@ module _ {O I : Type 0} (k : LaneLaws O I) where
   stays_open a b goes s f = goes.open_yet (finished_before a.node b.node s.node (λ q none. sym (s.posts q) ∙ none) f)
 
   -- an act that the node refused
-  pub act_refused : (a b : Worker O I) (h : Halt) (r : Option Outcome) → IsGoing a → Stays a.node b.node → (Refused h halts.Unfit → act_of a.node ≡ None) → (h ≡ halts.Unfit → nodes.stop_of b.node ≡ None)
+  pub act_refused : (a b : Worker O I) (h : Halt) (r : Option Outcome) → IsGoing a → Stays a.node b.node → (Refused h halts.Unfit → act_of a.node ≡ None) → (h ≡ halts.Unfit → nodes.node_halt b.node ≡ None)
       → SaysHalt b.node h r → b.answer ≡ r → b.lanes ≡ a.lanes → (looks : ℕ) → TurnedBy k looks a b
   act_refused a b halts.Waits r goes s unfit free says is lanes = turned_on a b (went_still k a b (stays_quiet a.node b.node s) s.posts lanes) (ap stop_in (is ∙ says)) (stays_open a b goes s)
   act_refused a b halts.Ended r goes s unfit free says is lanes = turned_on a b (went_still k a b (stays_quiet a.node b.node s) s.posts lanes) (ap stop_in (is ∙ says)) (stays_open a b goes s)

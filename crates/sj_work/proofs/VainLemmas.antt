@@ -30,7 +30,7 @@ limit_of (Some halts.Unfit) halted not = absurd halted
 limit_of None halted not = absurd halted
 
 -- a party that is idle after turns in vain was so before
-pub idle_before : (a b : Node) → HasNoEvent a b → IsIdle (nodes.stop_of b) → IsIdle (nodes.stop_of a)
+pub idle_before : (a b : Node) → HasNoEvent a b → IsIdle (nodes.node_halt b) → IsIdle (nodes.node_halt a)
 idle_before a b rests idle = subst (λ (o : Option Halt). IsIdle o) (stop_same a b rests.node) idle
 
 all_looks : (n looks : ℕ) → n ≤ looks → looks ≤ n → n ≡ looks
@@ -56,7 +56,7 @@ enough_looks n t m looks last same is over = omega arith
 module _ {O I : Type 0} (k : LaneLaws O I) where
   -- a turn in vain: looks, pushes, and an act that isn't there
   pub vain_turn : (a b c d : Worker O I) → WentBy k None a b → WentBy k None b c → WentBy k None c d → b.node ≡ a.node → InVain k.inward.vain 1 a b → HasNoEvent b.node c.node → OutVain k.outward.vain 1 b c → HasNoEvent c.node d.node
-      → IsHalted (nodes.stop_of d.node) → IsInVain k.outward.vain k.inward.vain a d
+      → IsHalted (nodes.node_halt d.node) → IsInVain k.outward.vain k.inward.vain a d
   vain_turn a b c d looked pushed acted node ins sent outs rests halted = record {
     rests = rests_later a.node b.node d.node (rests_itself a.node b.node node) (rests_later b.node c.node d.node sent rests);
     ins = ins_then k 1 a b d ins (went_later k b c d None pushed acted);
@@ -97,7 +97,7 @@ module _ {O I : Type 0} (k : LaneLaws O I) where
     row_since n end went rests ins outs = record { since = init; before = went_itself k init init refl refl; after = went; rests = rests; ins = ins; outs = outs }
 
     -- all looks were in vain, and the party is idle
-    pub wait_idle : looks ≤ now.looks → IsIdle (nodes.stop_of now.node) → TurnedBy k looks init (record now { answer = Some answers.Idle })
+    pub wait_idle : looks ≤ now.looks → IsIdle (nodes.node_halt now.node) → TurnedBy k looks init (record now { answer = Some answers.Idle })
     wait_idle over idle =
         let all : now.looks ≡ looks = all_looks now.looks looks w.within over in
         let ins : InVain k.inward.vain looks init now = subst (λ n. InVain k.inward.vain n init now) all w.ins in
@@ -135,13 +135,13 @@ module _ {O I : Type 0} (k : LaneLaws O I) where
         }
 
         -- and the party is at its limit
-        pub wait_limit : (n : ℕ) → max looks 1 ≤ now.looks + 1 → (IsIdle (nodes.stop_of next.node) → ⊥) → TurnedBy k looks init (record next { looks = n; answer = Some answers.AtLimit })
+        pub wait_limit : (n : ℕ) → max looks 1 ≤ now.looks + 1 → (IsIdle (nodes.node_halt next.node) → ⊥) → TurnedBy k looks init (record next { looks = n; answer = Some answers.AtLimit })
         wait_limit n over busy =
             let ins : InVain k.inward.vain (max looks 1) init next = ins_fewer k (max looks 1) (now.looks + 1) init next over (ins_more k now.looks 1 init now next v.rests.parties w.ins v.ins) in
             let outs : OutVain k.outward.vain (max looks 1) init next = outs_fewer k (max looks 1) (now.looks + 1) init next over (outs_more k now.looks 1 init now next v.rests w.outs v.outs) in
             let went : WentBy k None init (record next { looks = n; answer = Some answers.AtLimit }) = went_again k init next None (Some answers.AtLimit) n after in
             turned_off k init (record next { looks = n; answer = Some answers.AtLimit }) None stops.AtLimit looks refl (λ e. cc e) open_next went tt (record {
-              limit = limit_of (nodes.stop_of next.node) v.halted busy;
+              limit = limit_of (nodes.node_halt next.node) v.halted busy;
               ins = ins;
               outs = outs;
               row = row_since (max looks 1) (record next { looks = n; answer = Some answers.AtLimit }) went (rests_later init.node now.node next.node w.rests v.rests) ins outs;

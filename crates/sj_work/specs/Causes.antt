@@ -51,7 +51,7 @@ lost_line n l = own_line n (record { clock = max (clock_of n) (min l.frame.clock
 abbrev pub IsUnfit : Option (LostAt Place) → Node → Option Line → Type 0
 IsUnfit (Some l) n line =
     (l.party < parties_of n) × (arrives done (parties_of n) max (node_at n) l.party l.frame ≡ None) × (line ≡ Some (lost_line n l))
-IsUnfit None n line = (nodes.stop_of n ≡ None) × (act_of n ≡ None) × (line ≡ option_map (own_line n) (due_of n))
+IsUnfit None n line = (nodes.node_halt n ≡ None) × (act_of n ≡ None) × (line ≡ option_map (own_line n) (due_of n))
 
 module _ {O I : Type 0} where
   -- the clock can't rise any more
@@ -65,7 +65,7 @@ module _ {O I : Type 0} where
 module _ {O I : Type 0} (outward : OutLane O) (inward : InLane I) where
   -- the party waits or has ended, after so many turns in a row without an event
   pub record IsIdleFor (looks : ℕ) (old new : Worker O I) : Type 0 where
-    pub idle : IsIdle (nodes.stop_of (node_of new))
+    pub idle : IsIdle (nodes.node_halt (node_of new))
     pub turns : looks_of new ≡ looks
     pub ins : InVain inward.vain looks old new
     pub outs : OutVain outward.vain looks old new
@@ -73,7 +73,7 @@ module _ {O I : Type 0} (outward : OutLane O) (inward : InLane I) where
 
   -- the party is at a limit, likewise, and after one such turn where no look is asked for
   pub record IsAtLimit (looks : ℕ) (old new : Worker O I) : Type 0 where
-    pub limit : nodes.stop_of (node_of new) ≡ Some halts.AtLimit
+    pub limit : nodes.node_halt (node_of new) ≡ Some halts.AtLimit
     pub ins : InVain inward.vain (max looks 1) old new
     pub outs : OutVain outward.vain (max looks 1) old new
     pub row : InARow outward inward (max looks 1) old new

@@ -48,4 +48,4 @@ module _ {O I : Type 0} (out_vain : O → ℕ) (in_vain : I → ℕ) where
     pub rests : HasNoEvent (node_of old) (node_of new)
     pub ins : InVain in_vain 1 old new
     pub outs : OutVain out_vain 1 old new
-    pub halted : IsHalted (nodes.stop_of (node_of new))
+    pub halted : IsHalted (nodes.node_halt (node_of new))

@@ -35,7 +35,7 @@ pub(crate) fn finished(node: &Node) -> Option<Outcome>
 // The line that an act would have made which the rules don't have.
 fn due_line(node: &Node) -> Line
     requires clock { clock_of node.now < clock_end }
-    requires goes { nodes.stop_of node.now ≡ None }
+    requires goes { nodes.node_halt node.now ≡ None }
     ensures { Some result ≡ option_map (own_line node.now) (due_of node.now) }
 {
     match node.due() {
@@ -50,7 +50,7 @@ fn due_line(node: &Node) -> Line
 // What a worker answers whose node refused an act. A party that is halted is no reason to stop.
 fn refused(node: &Node, halt: Halt) -> Option<Outcome>
     requires clock { clock_of node.now < clock_end }
-    requires goes { halt ≡ Halt.Unfit → nodes.stop_of node.now ≡ None }
+    requires goes { halt ≡ Halt.Unfit → nodes.node_halt node.now ≡ None }
     ensures { SaysHalt node.now halt result }
 {
     match halt {
@@ -67,7 +67,7 @@ fn act<O: OutLane, I: InLane, G: Gate>(worker: &mut Worker<O, I>, gate: &G) -> b
     ensures event { IsTrue result → clock_of (node_of worker.old) < clock_of (node_of worker.new) }
     ensures rests { IsFalse result → HasNoEvent (node_of worker.old) (node_of worker.new) }
     ensures halted { IsFalse result → stop_of worker.new ≡ None →
-        IsHalted (nodes.stop_of (node_of worker.new)) }
+        IsHalted (nodes.node_halt (node_of worker.new)) }
     ensures looks { looks_of worker.new ≡ looks_of worker.old }
 {
     if worker.node.clock() >= CLOCK_END {
@@ -95,7 +95,7 @@ pub(crate) fn act_on<O: OutLane, I: InLane, G: Gate>(worker: &mut Worker<O, I>, 
         clock_of (node_of worker.old) < clock_of (node_of worker.new) }
     ensures rests { IsFalse result → HasNoEvent (node_of worker.old) (node_of worker.new) }
     ensures halted { IsFalse result → stop_of worker.new ≡ None →
-        IsHalted (nodes.stop_of (node_of worker.new)) }
+        IsHalted (nodes.node_halt (node_of worker.new)) }
     ensures looks { looks_of worker.new ≡ looks_of worker.old }
 {
     if !act(worker, gate) {

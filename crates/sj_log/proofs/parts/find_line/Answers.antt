@@ -1,7 +1,7 @@
 use Rattle.std.proofs.Common.{◌≡◌, ◌∙◌, ◌∷◌, true, false, ℕ, List, Option, sym, subst}
 use Rattle.memchr.specs.Find.{FindsNeedle, OccursAt}
 use Rattle.sj_log.proofs.PartLemmas.{marked_behind, marked_first, marked_never}
-use Rattle.sj_log.proofs.parts.line_at.Goals as goal
+use Rattle.sj_log.proofs.parts.find_line.Goals as goal
 
 pub returns-then-is_prefix : goal.returns-then-is_prefix
 returns-then-is_prefix c = marked_first c.args.mark.now c.args.source.now (c.is_prefix.ensures.0 c.if-is_prefix.true)
