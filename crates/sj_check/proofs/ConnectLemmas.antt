@@ -12,13 +12,13 @@ use Rattle.sj_check.proofs.FaultLemmas.{behind, Tells-front}
 use Rattle.sj_check.proofs.OpeningLemmas.{mapped, take_next}
 
 module _ (names : List ℕ) (ps : List ProtocolAt) (all : List Connect) (i : ℕ) (d : Connect) (h : i < length all) where
-  from : List Test
+  abbrev pub from : List Test
   from = connect_tests names ps (connects_of (take i all)) (connects_of (drop i all))
 
-  here : List Test
+  abbrev pub here : List Test
   here = connection_tests names ps (connects_of (take i all)) (connect_of (get_or all i d))
 
-  later : List Test
+  abbrev pub later : List Test
   later = connect_tests names ps (connects_of (take (i + 1) all)) (connects_of (drop (i + 1) all))
 
   taken : connects_of (take (suc i) all) ≡ (connects_of (take i all) ++ connect_of (get_or all i d) ∷ [])
