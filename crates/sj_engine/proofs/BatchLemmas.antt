@@ -1,5 +1,5 @@
 -- A call of a worker over bytes, as a batch.
-use Rattle.std.proofs.Common.{◌≡◌, ℕ, max, List, [], ◌∷◌, ◌++◌, map, take, Option, Some, None, refl, sym, ap, subst, ◌∙◌, append_assoc, append-nil, arith}
+use Rattle.std.proofs.Common.{◌≡◌, ℕ, max, List, [], ◌∷◌, ◌++◌, map, take, Option, Some, None, inl, inr, refl, sym, ap, subst, ◌∙◌, append_assoc, append-nil, arith}
 use Rattle.std.specs.List.{flat_map}
 use Rattle.std.proofs.lemmas.Grind.{flat_map-append}
 use Rattle.std.proofs.lemmas.List.{append_cancel_left, take-append-drop}
@@ -10,6 +10,7 @@ use Rattle.sj_rules.specs.NodeRun.{popped_from, posted_to}
 use Rattle.sj_rules.specs.Work.{InStep, LaneWork, OutStep, LostAt, lost_from, told_more}
 use Rattle.sj_table.specs.Spots.{place_in}
 use Rattle.sj_table.specs.declared.table.Spot.{Spot}
+use Rattle.sj_lane.specs.Told.{Rose}
 use Rattle.sj_lane.specs.declared.lane.OutLane.{Ghosts as OutLane}
 use Rattle.sj_lane.specs.declared.lane.InLane.{Ghosts as InLane}
 use Rattle.sj_node.specs.Node.{log_of, outbox_of, play_here}
@@ -24,12 +25,15 @@ use Rattle.sj_work.specs.Laned.{entries_of, laned}
 use Rattle.sj_work.specs.Views.{in_of, node_of, out_of, stop_of}
 use Rattle.sj_work.specs.Went.{OutVain}
 use Rattle.sj_work.specs.Worked.{Turned, Worked, WorkedBy, kept_stop}
-use Rattle.sj_engine.specs.Frames.{frames_in}
+use Rattle.sj_engine.specs.Frames.{IsBroken, frames_in}
 use Rattle.sj_engine.specs.Lanes.{SameIn, as_told, popped_on, pushed_on, unread}
-use Rattle.sj_engine.specs.Batch.{Batch, Brings, IsAllSent, Sends, SendsAll, waiting}
+use Rattle.sj_engine.specs.Batch.{Batch, Brings, IsAllSent, Sends, SendsAll, StopsBy, waiting}
 use Rattle.sj_engine.specs.declared.in_lane.ByteIn.{ByteIn}
 use Rattle.sj_engine.specs.declared.out_lane.ByteOut.{ByteOut}
 use Rattle.sj_engine.proofs.FrameLemmas.{spelling_with}
+
+some_none : {X : Type 0} (x : X) → Some x ≡ None → ⊥
+some_none x e = absurd cc
 
 some_is : {X : Type 0} {x y : X} → Some x ≡ Some y → x ≡ y
 some_is e = cc
@@ -40,7 +44,7 @@ told_spelt [] = refl
 told_spelt (f ∷ fs) = λ i. spelling_with (λ s. done) f i ++ told_spelt fs i
 
 -- a pop of these frames leaves the bytes after their spellings
-brought : (i j : ByteIn) (came : List (FrameAt Place)) → SameIn i j → Some (popped_on j) ≡ told_more (Some (popped_on i)) came → unread i ≡ flat_map spelling came ++ unread j
+pub brought : (i j : ByteIn) (came : List (FrameAt Place)) → SameIn i j → Some (popped_on j) ≡ told_more (Some (popped_on i)) came → unread i ≡ flat_map spelling came ++ unread j
 brought i j came same told =
     let bytes = i.bytes.items in
     let lists : popped_on j ≡ popped_on i ++ came = some_is told in
@@ -104,19 +108,37 @@ batch_of same lost old new work play party parties = record {
   parties = parties;
 }
 
-module _ (outward : OutLane ByteOut) (inward : InLane ByteIn) where
+-- a lane whose count of faults rose has no frame at the front
+fault_at : (faults : ByteIn → ℕ) → ((i : ByteIn) → faults i ≡ i.faults) → (a b : ByteIn) → Rose (faults a) (faults b) → IsBroken (unread b)
+fault_at faults same a b rose = let x = same b in b.broken (omega (arith, rose, x))
+
+module _ (outward : OutLane ByteOut) (inward : InLane ByteIn) (no_faults : (o : ByteOut) → outward.faults o ≡ 0) (faults : (i : ByteIn) → inward.faults i ≡ i.faults) where
+  -- the cause of a stop
+  cause_of : (s : Option Stop) (lost : Option (LostAt Place)) (old new : Worker ByteOut ByteIn) → Cause outward inward s 1 lost old new → StopsBy s lost new
+  cause_of None lost old new cause = tt
+  cause_of (Some stops.Finished) lost old new cause = cause
+  cause_of (Some stops.Idle) lost old new cause = cause.idle
+  cause_of (Some stops.AtLimit) lost old new cause = cause.limit
+  cause_of (Some stops.ClockEnd) lost old new cause = cause
+  cause_of (Some stops.NoMemory) lost old new cause = tt
+  cause_of (Some stops.Fault) lost old new (inl (q, a, b, x, y, rose)) = let none = no_faults b in absurd (omega (arith, rose, none))
+  cause_of (Some stops.Fault) lost old new (inr (q, a, b, x, y, rose)) = (q, b, y, fault_at inward.faults faults a b rose)
+  cause_of (Some stops.Unfit) lost old new cause = cause
+
   -- nothing, or turns up to a stop
-  worked_by : (R : Type 0) (k : Option Stop) (old new : Worker ByteOut ByteIn) → WorkedBy outward inward k 1 old new → (new ≡ old → R) → (Turned outward inward 1 old new → R) → R
-  worked_by R (Some s) old new w rests turns = rests w
-  worked_by R None old new w rests turns = turns w.1
+  worked_by : (R : Type 0) (k : Option Stop) (old new : Worker ByteOut ByteIn) → kept_stop (stop_of old) ≡ k → WorkedBy outward inward k 1 old new
+      → ((kept_stop (stop_of old) ≡ None → ⊥) → new ≡ old → R) → (Turned outward inward 1 old new → R) → R
+  worked_by R (Some s) old new is w rests turns = rests (λ none. some_none s (sym is ∙ none)) w
+  worked_by R None old new is w rests turns = turns w.1
 
   -- the lanes report what was pushed and popped
   pub worked_batch : outward.pushed ≡ (λ x. Some (pushed_on x)) → inward.popped ≡ (λ x. Some (popped_on x)) → inward.same ≡ SameIn → (old new : Worker ByteOut ByteIn) → Worked outward inward 1 old new
-      → (lost : Option (LostAt Place)) × Loses lost (stop_of new) × Batch lost old new
+      → (lost : Option (LostAt Place)) × Loses lost (stop_of new) × Batch lost old new × (kept_stop (stop_of old) ≡ None → StopsBy (stop_of new) lost new)
   worked_batch pushed popped same old new w =
-      worked_by ((lost : Option (LostAt Place)) × Loses lost (stop_of new) × Batch lost old new) (kept_stop (stop_of old)) old new w
-      (λ e. subst (λ (n : Worker ByteOut ByteIn). (lost : Option (LostAt Place)) × Loses lost (stop_of n) × Batch lost old n) (sym e) (None, tt, stays old))
-      (λ t. (t.lost, t.loses, batch_of outward.same t.lost old new (seen t) t.went.play t.went.party t.went.parties))
+      worked_by ((lost : Option (LostAt Place)) × Loses lost (stop_of new) × Batch lost old new × (kept_stop (stop_of old) ≡ None → StopsBy (stop_of new) lost new)) (kept_stop (stop_of old)) old new refl w
+      (λ stays_kept e. subst (λ (n : Worker ByteOut ByteIn). (lost : Option (LostAt Place)) × Loses lost (stop_of n) × Batch lost old n × (kept_stop (stop_of old) ≡ None → StopsBy (stop_of n) lost n)) (sym e)
+      (None, tt, stays old, λ none. absurd (stays_kept none)))
+      (λ t. (t.lost, t.loses, batch_of outward.same t.lost old new (seen t) t.went.play t.went.party t.went.parties, λ none. cause_of (stop_of new) t.lost old new t.cause))
     where
       seen : (t : Turned outward inward 1 old new) → LaneWork (λ x. Some (pushed_on x)) outward.same (λ x. Some (popped_on x)) SameIn (play_here (node_of old)) max done (party_of (node_of old)) (laned old) (laned new) t.lost
       seen t =

@@ -11,8 +11,9 @@ use Rattle.sj_rules.specs.Frames.{FrameAt, frames_for}
 use Rattle.sj_rules.specs.NodeRun.{NodeRun, StepAt, frame_from, popped_from, posted_to, told_frames}
 use Rattle.sj_rules.specs.Work.{LostAt, lost_from}
 use Rattle.sj_joined_lemmas.proofs.WorkerLemmas.{runs_joined}
-use Rattle.sj_node.specs.Node.{log_of, node_at, outbox_of, play_here}
-use Rattle.sj_node.specs.Reading.{parties_of, party_of}
+use Rattle.sj_node.specs.declared.node.Node.{Node}
+use Rattle.sj_node.specs.Node.{log_of, node_at, node_halt, outbox_of, play_here}
+use Rattle.sj_node.specs.Reading.{IsIdle, parties_of, party_of}
 use Rattle.sj_wire.specs.Spelling.{spelling}
 use Rattle.sj_work.specs.declared.worker.Stop.{Stop}
 use Rattle.sj_work.specs.declared.worker.Stop.TheVariants as stops
@@ -20,7 +21,8 @@ use Rattle.sj_work.specs.declared.worker.Worker.{Worker}
 use Rattle.sj_work.specs.Causes.{Loses}
 use Rattle.sj_work.specs.Laned.{entries_of}
 use Rattle.sj_work.specs.Views.{in_of, node_of, out_of}
-use Rattle.sj_engine.specs.Batch.{Batch, Brings, Sends, waiting}
+use Rattle.sj_work.specs.Worked.{kept_stop}
+use Rattle.sj_engine.specs.Batch.{Batch, Brings, Sends, StopsBy, waiting}
 use Rattle.sj_engine.specs.Home.{AtHome}
 use Rattle.sj_engine.specs.Lanes.{pushed_on, unread}
 use Rattle.sj_engine.specs.Rounds.{GoesHome, Keeps, Rounds, goes_on}
@@ -130,11 +132,11 @@ rounds_none w = record {
   parties = refl;
 }
 
-posted_both : (q : ℕ) (xs ys : List (StepAt Place)) → posted_to done q (xs ++ ys) ≡ posted_to done q xs ++ posted_to done q ys
+pub posted_both : (q : ℕ) (xs ys : List (StepAt Place)) → posted_to done q (xs ++ ys) ≡ posted_to done q xs ++ posted_to done q ys
 posted_both q xs ys = flat_map-append (λ (s : StepAt Place). told_frames done (frames_for q s.entry.clock s.posts)) xs ys
 
 -- what was popped by the steps before, where none was lost, and what comes then
-popped_both : (q : ℕ) (xs ys : List (StepAt Place)) (lost : Option (LostAt Place)) → (popped_from done q xs ++ []) ++ (popped_from done q ys ++ lost_from lost q) ≡ popped_from done q (xs ++ ys) ++ lost_from lost q
+pub popped_both : (q : ℕ) (xs ys : List (StepAt Place)) (lost : Option (LostAt Place)) → (popped_from done q xs ++ []) ++ (popped_from done q ys ++ lost_from lost q) ≡ popped_from done q (xs ++ ys) ++ lost_from lost q
 popped_both q xs ys lost =
     let both : popped_from done q (xs ++ ys) ≡ popped_from done q xs ++ popped_from done q ys = filter_map-append (λ (s : StepAt Place). frame_from done q s.deed) xs ys in
     ap (λ (l : Frames). l ++ (popped_from done q ys ++ lost_from lost q)) (append-nil (popped_from done q xs)) ∙ sym (append_assoc (popped_from done q xs) (popped_from done q ys) (lost_from lost q)) ∙ ap (λ (l : Frames). l ++ lost_from lost q) (sym both)
@@ -226,3 +228,23 @@ no_loss stops.ClockEnd (Some l) goes loses = absurd loses
 no_loss stops.NoMemory (Some l) goes loses = absurd cc
 no_loss stops.Fault (Some l) goes loses = absurd loses
 no_loss stops.Unfit (Some l) goes loses = absurd cc
+
+-- its stop isn't one that stays
+pub kept_none : (s : Stop) → goes_on s ≡ true → kept_stop (Some s) ≡ None
+kept_none stops.Finished goes = refl
+kept_none stops.Idle goes = refl
+kept_none stops.AtLimit goes = refl
+kept_none stops.ClockEnd goes = refl
+kept_none stops.NoMemory goes = absurd cc
+kept_none stops.Fault goes = absurd cc
+kept_none stops.Unfit goes = absurd cc
+
+-- and has the same cause once something went home
+pub stops_home : (s : Stop) (lost : Option (LostAt Place)) (b c : Worker ByteOut ByteIn) → goes_on s ≡ true → node_of c ≡ node_of b → StopsBy (Some s) lost b → StopsBy (Some s) lost c
+stops_home stops.Finished lost b c goes same by = absurd cc
+stops_home stops.Idle lost b c goes same by = subst (λ (n : Node). IsIdle (node_halt n)) (sym same) by
+stops_home stops.AtLimit lost b c goes same by = ap node_halt same ∙ by
+stops_home stops.ClockEnd lost b c goes same by = absurd cc
+stops_home stops.NoMemory lost b c goes same by = absurd cc
+stops_home stops.Fault lost b c goes same by = absurd cc
+stops_home stops.Unfit lost b c goes same by = absurd cc

@@ -1,18 +1,22 @@
 -- What a party does until it must wait: steps of the rules, their entries, and the bytes that they take and send.
-use Rattle.std.specs.Prelude.{◌≡◌, ℕ, ◌<◌, max, ⊤, List, [], ◌++◌, map, Option, Some, None}
+use Rattle.std.specs.Prelude.{◌≡◌, ℕ, ◌<◌, ◌≤◌, max, ⊤, List, [], ◌++◌, map, Option, Some, None}
 use Rattle.std.specs.List.{flat_map}
 use Rattle.sj_lang.specs.Place.{Place, done}
 use Rattle.sj_rules.specs.Frames.{FrameAt}
+use Rattle.sj_rules.specs.Limits.{clock_end}
 use Rattle.sj_rules.specs.NodeRun.{NodeRun, StepAt, popped_from, posted_to, told_frames}
 use Rattle.sj_rules.specs.Work.{LostAt, lost_from}
-use Rattle.sj_node.specs.Node.{log_of, node_at, outbox_of, play_here}
-use Rattle.sj_node.specs.Reading.{parties_of, party_of}
+use Rattle.sj_node.specs.declared.refusal.Halt.TheVariants as halts
+use Rattle.sj_node.specs.Node.{clock_of, log_of, node_at, node_halt, outbox_of, play_here}
+use Rattle.sj_node.specs.Reading.{IsFinished, IsIdle, parties_of, party_of}
 use Rattle.sj_wire.specs.Spelling.{spelling}
 use Rattle.sj_work.specs.declared.worker.Stop.{Stop}
 use Rattle.sj_work.specs.declared.worker.Stop.TheVariants as stops
 use Rattle.sj_work.specs.declared.worker.Worker.{Worker}
+use Rattle.sj_work.specs.Causes.{IsUnfit}
 use Rattle.sj_work.specs.Laned.{entries_of}
-use Rattle.sj_work.specs.Views.{in_of, node_of, out_of}
+use Rattle.sj_work.specs.Views.{in_of, node_of, out_of, unfit_of}
+use Rattle.sj_engine.specs.Frames.{IsBroken}
 use Rattle.sj_engine.specs.Lanes.{pushed_on, unread}
 use Rattle.sj_engine.specs.declared.in_lane.ByteIn.{ByteIn}
 use Rattle.sj_engine.specs.declared.out_lane.ByteOut.{ByteOut}
@@ -59,3 +63,18 @@ SendsAll stops.ClockEnd w = ⊤
 SendsAll stops.NoMemory w = ⊤
 SendsAll stops.Fault w = ⊤
 SendsAll stops.Unfit w = ⊤
+
+-- the unread bytes of some lane begin with what is no frame
+abbrev pub HasBroken : Worker ByteOut ByteIn → Type 0
+HasBroken w = (q : ℕ) × (i : ByteIn) × (in_of w q ≡ Some i) × IsBroken (unread i)
+
+-- why a party stopped so; out of memory alone is free
+abbrev pub StopsBy : Option Stop → Option (LostAt Place) → Worker ByteOut ByteIn → Type 0
+StopsBy None lost w = ⊤
+StopsBy (Some stops.Finished) lost w = IsFinished (node_of w)
+StopsBy (Some stops.Idle) lost w = IsIdle (node_halt (node_of w))
+StopsBy (Some stops.AtLimit) lost w = node_halt (node_of w) ≡ Some halts.AtLimit
+StopsBy (Some stops.ClockEnd) lost w = clock_end ≤ clock_of (node_of w)
+StopsBy (Some stops.NoMemory) lost w = ⊤
+StopsBy (Some stops.Fault) lost w = HasBroken w
+StopsBy (Some stops.Unfit) lost w = IsUnfit lost (node_of w) (unfit_of w)

@@ -1,10 +1,19 @@
 -- Bytes as the frames that they spell, one after another.
-use Rattle.std.specs.Prelude.{◌≡◌, ℕ, zero, suc, ◌<◌, ◌≤◌, List, [], ◌∷◌, ◌++◌, length, drop, take, ◌+◌}
+use Rattle.std.specs.Prelude.{◌≡◌, Bool, true, false, ℕ, zero, suc, ◌<◌, ◌≤◌, List, [], ◌∷◌, ◌++◌, length, drop, take, ◌+◌}
 use Rattle.std.specs.List.{flat_map}
 use Rattle.sj_rules.specs.Frames.{FrameAt}
 use Rattle.sj_table.specs.declared.table.Spot.{Spot}
 use Rattle.sj_wire.specs.Front.{Front, Cut, Refused, Whole, front_of}
 use Rattle.sj_wire.specs.Spelling.{spelling}
+
+-- the bytes begin with what is no frame, whatever bytes follow
+abbrev pub is_refused : Front → Bool
+is_refused Cut = false
+is_refused (Refused e) = true
+is_refused (Whole f rest) = false
+
+abbrev pub IsBroken : List ℕ → Type 0
+IsBroken bytes = is_refused (front_of bytes) ≡ true
 
 -- the frame at the front, and the frames of the other bytes
 abbrev pub first_and : (List ℕ → List (FrameAt Spot)) → Front → List (FrameAt Spot)

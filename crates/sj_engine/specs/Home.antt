@@ -1,9 +1,9 @@
 -- What a party sends to itself: it goes from its own lane out to its own lane in.
 use Rattle.std.specs.Prelude.{◌≡◌, ℕ, ◌++◌, [], slice_get, Option, Some, None}
-use Rattle.std.specs.List.{flat_map}
+use Rattle.std.specs.List.{AllByRecursion, flat_map}
 use Rattle.sj_lane.specs.declared.lane.Lanes.{Lanes}
 use Rattle.sj_wire.specs.Spelling.{spelling}
-use Rattle.sj_engine.specs.Lanes.{pushed_on, unread}
+use Rattle.sj_engine.specs.Lanes.{CanBeSpelt, pushed_on, unread}
 use Rattle.sj_engine.specs.declared.in_lane.ByteIn.{ByteIn}
 use Rattle.sj_engine.specs.declared.out_lane.ByteOut.{ByteOut}
 
@@ -26,3 +26,8 @@ abbrev pub IsCarried : (o : Option ByteOut) (i : Option ByteIn) → Type 0
 IsCarried (Some o) (Some i) = pushed_on o ≡ []
 IsCarried (Some o) None = Unit {0}
 IsCarried None i = Unit {0}
+
+-- the lane has a frame that is outside the limits of the wire
+abbrev pub IsOutside : Option ByteOut → Type 0
+IsOutside None = ⊥
+IsOutside (Some o) = AllByRecursion CanBeSpelt (pushed_on o) → ⊥

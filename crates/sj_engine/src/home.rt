@@ -1,6 +1,6 @@
 //! What a party sends to itself.
-ghost use Rattle.std.specs.Prelude.{◌≡◌, OnOk, slice_get};
-ghost use Rattle.sj_engine.specs.Home.{CarriesHome, IsCarried};
+ghost use Rattle.std.specs.Prelude.{◌≡◌, IfErr, OnOk, slice_get};
+ghost use Rattle.sj_engine.specs.Home.{CarriesHome, IsCarried, IsOutside};
 
 use crate::{ByteIn, ByteOut, SpellRefusal};
 use sj_lane::Lanes;
@@ -16,6 +16,8 @@ pub fn carry_home(
     ensures carried { CarriesHome party lanes.old lanes.new }
     ensures ok { OnOk result
         (IsCarried (slice_get lanes.new.outs.items party) (slice_get lanes.new.ins.items party)) }
+    ensures unlawful { IfErr result (λ e. e ≡ SpellRefusal.Unlawful
+        → IsOutside (slice_get lanes.new.outs.items party)) }
 {
     let at = usize::from(party);
     if at >= lanes.outs.len() || at >= lanes.ins.len() || lanes.outs[at].is_empty() {

@@ -1,8 +1,8 @@
 //! The lane from which a party pops frames that came as bytes.
-ghost use Rattle.std.specs.Prelude.{◌≡◌, ◌≤◌, ◌++◌, List, [], drop, length, take, vec_items, vec_len, IfNone, IfOk, IfSome, OnErr, OnOk, Some, ℕ};
+ghost use Rattle.std.specs.Prelude.{◌≡◌, ◌<◌, ◌≤◌, ◌++◌, List, [], drop, length, take, vec_items, vec_len, IfErr, IfNone, IfOk, IfSome, IsFalse, OnErr, OnOk, Some, ℕ};
 ghost use Rattle.std.specs.List.{flat_map};
 ghost use Rattle.sj_end.specs.Views.{frame_at};
-ghost use Rattle.sj_engine.specs.Frames.{UsesOne, frames_in, rest_in};
+ghost use Rattle.sj_engine.specs.Frames.{IsBroken, UsesOne, frames_in, rest_in};
 ghost use Rattle.sj_lane.specs.Told.{PopCause, popped_by, told_more, vain_pop};
 ghost use Rattle.sj_rules.specs.Frames.{FrameAt};
 ghost use Rattle.sj_table.specs.declared.table.Spot.{Spot};
@@ -27,6 +27,7 @@ pub struct ByteIn {
     pub(crate) vain: u64,
     ghost within: { used ≤ vec_len bytes },
     ghost left: { decoder ≡ drop used (vec_items bytes) },
+    ghost broken: { 0 < faults → IsBroken decoder },
     ghost whole: { rest_in (take used (vec_items bytes)) ≡ [] },
     ghost spelt: { take used (vec_items bytes) ≡ flat_map spelling (frames_in (take used (vec_items bytes))) },
 }
@@ -95,6 +96,13 @@ fn front_size(bytes: &[u8], used: usize) -> usize
     4 + BigEndian::read_u32(left) as usize
 }
 
+/// Whether memory alone refused it.
+fn lacks_memory(refusal: WireRefusal) -> bool
+    ensures { IsFalse result → refusal ≡ WireRefusal.NoMemory → ⊥ }
+{
+    matches!(refusal, WireRefusal::NoMemory)
+}
+
 impl InLane for ByteIn {
     ghost use Rattle.sj_engine.specs.Lanes.{SameIn, in_itself, in_later, popped_on};
 
@@ -118,6 +126,7 @@ impl InLane for ByteIn {
         ensures none { IfOk result
             (λ x. IfNone x ((front_of self.old.decoder ≡ Cut) × (self.new.decoder ≡ self.old.decoder))) }
         ensures err { OnErr result (self.new.decoder ≡ self.old.decoder) }
+        ensures broken { IfErr result (λ e. e ≡ PopRefusal.Fault → IsBroken self.old.decoder) }
     {
         let size = front_size(&self.bytes, self.used);
         match self.decoder.next() {
@@ -129,8 +138,10 @@ impl InLane for ByteIn {
                 self.vain = self.vain.saturating_add(1);
                 Ok(None)
             }
-            Err(WireRefusal::NoMemory) => Err(PopRefusal::NoMemory),
-            Err(_) => {
+            Err(refusal) => {
+                if lacks_memory(refusal) {
+                    return Err(PopRefusal::NoMemory);
+                }
                 self.faults = self.faults.saturating_add(1);
                 Err(PopRefusal::Fault)
             }

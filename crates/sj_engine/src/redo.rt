@@ -1,7 +1,7 @@
 //! Entries of a party's log, done again at its node.
-ghost use Rattle.std.specs.Prelude.{◌<◌, IsTrue, OnOk};
+ghost use Rattle.std.specs.Prelude.{◌≡◌, ◌<◌, IfErr, IsFalse, IsTrue, OnErr, OnOk};
 ghost use Rattle.sj_end.specs.Views.{frame_at};
-ghost use Rattle.sj_engine.specs.Redone.{IsLast, Redone};
+ghost use Rattle.sj_engine.specs.Redone.{IsLast, IsNoAct, IsNoDelivery, IsOther, Redone};
 ghost use Rattle.sj_node.specs.Node.{clock_of};
 ghost use Rattle.sj_node.specs.Reading.{table_of};
 ghost use Rattle.sj_rules.specs.Limits.{clock_end};
@@ -16,7 +16,8 @@ use sj_node::{DeliverRefusal, Halt, Node};
 
 /// Whether the entry is the last that the node noted.
 fn is_last(node: &Node, entry: &Entry) -> bool
-    ensures { IsTrue result → IsLast node.now entry.now }
+    ensures last { IsTrue result → IsLast node.now entry.now }
+    ensures other { IsFalse result → IsOther node.now entry.now }
 {
     let log = node.log();
     if log.len() == 0 {
@@ -38,7 +39,8 @@ fn is_last(node: &Node, entry: &Entry) -> bool
 
 /// A misfit where the entry isn't the last that the node noted.
 fn last(node: &Node, entry: &Entry) -> Result<(), RedoRefusal>
-    ensures { OnOk result (IsLast node.now entry.now) }
+    ensures last { OnOk result (IsLast node.now entry.now) }
+    ensures other { OnErr result (IsOther node.now entry.now) }
 {
     if is_last(node, entry) {
         Ok(())
@@ -51,7 +53,8 @@ fn last(node: &Node, entry: &Entry) -> Result<(), RedoRefusal>
 /// something else.
 pub fn redo_act(node: &mut Node, entry: &Entry) -> Result<(), RedoRefusal>
     requires { clock_of node.old < clock_end }
-    ensures { OnOk result (Redone node.old node.new Acted entry.now) }
+    ensures redone { OnOk result (Redone node.old node.new Acted entry.now) }
+    ensures misfit { IfErr result (λ e. e ≡ RedoRefusal.Misfit → IsNoAct node.old entry.now) }
 {
     match node.act() {
         Ok(()) => last(node, entry),
@@ -69,8 +72,10 @@ pub fn redo_delivery(
     entry: &Entry,
 ) -> Result<(), RedoRefusal>
     requires { clock_of node.old < clock_end }
-    ensures { OnOk result (Redone node.old node.new
+    ensures redone { OnOk result (Redone node.old node.new
         (Came from (frame_with (place_in (table_of node.old)) (frame_at frame))) entry.now) }
+    ensures misfit { IfErr result (λ e. e ≡ RedoRefusal.Misfit
+        → IsNoDelivery node.old from (frame_at frame) entry.now) }
 {
     match node.deliver(from, frame) {
         Ok(()) => last(node, entry),

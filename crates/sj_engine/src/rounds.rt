@@ -1,11 +1,14 @@
 //! Batches one after another.
-ghost use Rattle.std.specs.Prelude.{◌≡◌, IfOk, Option, Some};
-ghost use Rattle.sj_engine.specs.Batch.{SendsAll};
+ghost use Rattle.std.specs.Prelude.{◌≡◌, IfErr, IfOk, None, Option, Some};
+ghost use Rattle.sj_engine.specs.Batch.{SendsAll, StopsBy};
+ghost use Rattle.sj_engine.specs.Home.{IsOutside};
 ghost use Rattle.sj_engine.specs.Rounds.{GoesHome, Rounds, goes_on as may_go_on};
 ghost use Rattle.sj_lang.specs.Place.{Place};
+ghost use Rattle.sj_node.specs.Reading.{party_of};
 ghost use Rattle.sj_rules.specs.Work.{LostAt};
 ghost use Rattle.sj_work.specs.Causes.{Loses};
-ghost use Rattle.sj_work.specs.Views.{stop_of};
+ghost use Rattle.sj_work.specs.Views.{node_of, out_of, stop_of};
+ghost use Rattle.sj_work.specs.Worked.{kept_stop};
 
 use crate::{ByteIn, ByteOut, SpellRefusal, batch, carry_home};
 use sj_work::{Gate, Stop, Worker};
@@ -20,7 +23,9 @@ fn goes_on(stop: Stop) -> bool
 
 /// Carries what the party sent to itself. Answers whether there was something.
 fn go_home(alloc: Global, worker: &mut Worker<ByteOut, ByteIn>) -> Result<bool, SpellRefusal>
-    ensures { GoesHome worker.old worker.new }
+    ensures goes { GoesHome worker.old worker.new }
+    ensures unlawful { IfErr result (λ e. e ≡ SpellRefusal.Unlawful
+        → IsOutside (out_of worker.new (party_of (node_of worker.old)))) }
 {
     let party = worker.node().party();
     carry_home(alloc, worker.lanes(), party)
@@ -37,6 +42,11 @@ pub fn batches<G: Gate>(
         × Rounds lost worker.old worker.new }
     ensures sent { IfOk result (λ s. SendsAll s worker.new) }
     ensures stop { IfOk result (λ s. stop_of worker.new ≡ Some s) }
+    ensures cause { kept_stop (stop_of worker.old) ≡ None
+        → IfOk result (λ s. (lost : Option (LostAt Place)) × Loses lost (Some s)
+        × Rounds lost worker.old worker.new × StopsBy (Some s) lost worker.new) }
+    ensures unlawful { IfErr result (λ e. e ≡ SpellRefusal.Unlawful
+        → IsOutside (out_of worker.new (party_of (node_of worker.old)))) }
 {
     for _ in 0..u64::MAX {
         let stop = batch(worker, gate);

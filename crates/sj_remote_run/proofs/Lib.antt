@@ -1,3 +1,5 @@
+pub mod CameLemmas
+pub mod SinceLemmas
 pub mod AgainLemmas
 pub mod CaughtLemmas
 pub mod CauseLemmas

@@ -55,6 +55,12 @@ IsInside plays.TooLong = ⊤
 IsInside plays.NoMemory = ⊤
 IsInside _ = ⊥
 
+-- those of what is sent
+abbrev pub IsUnsent : PlayRefusal → Type 0
+IsUnsent plays.TooLong = ⊤
+IsUnsent plays.NoMemory = ⊤
+IsUnsent _ = ⊥
+
 -- of what came, an entry of the own stream, which another process added; or one that is no answer of the server
 abbrev pub IsUntaken : (party : ℕ) → List CameAt → PlayRefusal → Type 0
 IsUntaken party cs plays.Overtaken = HasOwn party cs

@@ -8,3 +8,7 @@ pub mod Batches
 pub mod Caught
 pub mod Sent
 pub mod Played
+pub mod Came
+pub mod Since
+pub mod Found
+pub mod Fails

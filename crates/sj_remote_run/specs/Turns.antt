@@ -36,6 +36,9 @@ lanes_in p = p.lanes
 abbrev pub outs_in : Player → List ByteOut
 outs_in p = p.lanes.outs.items
 
+abbrev pub ins_in : Player → List ByteIn
+ins_in p = p.lanes.ins.items
+
 -- how a party stands whose worker stopped so, or why it isn't played any further
 abbrev pub outcome_by : Stop → (finished : Bool) → Result Outcome PlayRefusal
 outcome_by stops.Finished finished = Ok (if finished then outcomes.Ended else outcomes.Waits)

@@ -4,8 +4,8 @@ ghost use Rattle.sj_engine.specs.Lanes.{pushed_on};
 ghost use Rattle.sj_lang.specs.FileView.{file_of};
 ghost use Rattle.sj_node.specs.Reading.{party_of};
 ghost use Rattle.sj_remote.specs.Streams.{keys_of, seen_of};
-ghost use Rattle.sj_remote_run.specs.Asked.{IsInside};
-ghost use Rattle.sj_remote_run.specs.Turns.{added_count, batch_text, next_seen, node_in, outs_in};
+ghost use Rattle.sj_remote_run.specs.Asked.{IsInside, IsUnsent};
+ghost use Rattle.sj_remote_run.specs.Turns.{added_count, batch_text, ins_in, next_seen, node_in, outs_in};
 ghost use Rattle.sj_streams.specs.Words.{words_at};
 
 use crate::PlayRefusal;
@@ -38,7 +38,9 @@ pub(crate) fn put_batch(
         ≡ get_or (seen_of streams.old) (party_of (node_in player.old)) 0 + added_count noted.now) }
     ensures keys { keys_of streams.new ≡ keys_of streams.old }
     ensures node { node_in player.new ≡ node_in player.old }
+    ensures ins { ins_in player.new ≡ ins_in player.old }
     ensures refused { IfErr result IsInside }
+    ensures unsent { IfErr result IsUnsent }
 {
     if noted.is_empty() {
         return Ok(());

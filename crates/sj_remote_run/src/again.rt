@@ -1,9 +1,15 @@
 //! An entry of the party's stream, done again.
-ghost use Rattle.std.specs.Prelude.{◌≡◌, IfErr, IsTrue, OnOk};
+ghost use Rattle.std.specs.Prelude.{◌≡◌, [], List, map, IfErr, IfOk, IsFalse, IsTrue, None, OnOk};
 ghost use Rattle.sj_check.specs.Held.{file_in};
+ghost use Rattle.sj_end.specs.Lines.{line_at};
 ghost use Rattle.sj_lang.specs.FileView.{file_of};
+ghost use Rattle.sj_lang.specs.Place.{Place};
+ghost use Rattle.sj_log.specs.LogText.{SpellsLog};
 ghost use Rattle.sj_remote_run.specs.Again.{DidAgain, Went};
 ghost use Rattle.sj_remote_run.specs.Asked.{IsInside};
+ghost use Rattle.sj_remote_run.specs.Found.{Halts, IsNoLog, IsNoText, IsNoWork};
+ghost use Rattle.sj_remote_run.specs.Since.{Since};
+ghost use Rattle.sj_rules.specs.NodeRun.{StepAt};
 ghost use Rattle.sj_streams.specs.Words.{words_at};
 
 use crate::PlayRefusal;
@@ -22,7 +28,12 @@ use std::alloc::Global;
 
 /// The lines of a batch.
 pub fn lines_in(alloc: Global, file: &File, text: &[u8]) -> Result<Vec<Line>, PlayRefusal>
-    ensures { IfErr result IsInside }
+    ensures spelt { IfOk result (λ lines. SpellsLog 2 (file_of file.now) text.now
+        (map line_at lines.items)) }
+    ensures refused { IfErr result IsInside }
+    ensures no_log { IfErr result (λ e. e ≡ PlayRefusal.LogFault → IsNoLog (file_of file.now) text.now) }
+    ensures no_frame { IfErr result (λ e. e ≡ PlayRefusal.NoFrame → ⊥) }
+    ensures fits { IfErr result (λ e. e ≡ PlayRefusal.Unfit → ⊥) }
 {
     if text.len() > LONGEST {
         return Err(PlayRefusal::LogFault);
@@ -43,7 +54,11 @@ fn redo_lines(
     text: &[u8],
 ) -> Result<(), PlayRefusal>
     ensures went { OnOk result (Went node.old node.new) }
+    ensures took { OnOk result ((steps : List (StepAt Place))
+        × Since [] steps None node.old node.new lanes.old.ins.items lanes.new.ins.items) }
     ensures refused { IfErr result IsInside }
+    ensures halts { IfErr result (Halts node.old lanes.old.ins.items
+        (IsNoText (file_of (file_in accepted.now)) text.now node.old)) }
 {
     let lines = lines_in(alloc, accepted.file(), text)?;
     for line in &lines {
@@ -58,7 +73,8 @@ fn redo_lines(
 
 /// Whether they are the same words.
 pub fn same_words(these: &[Vec<u8>], those: &[Vec<u8>]) -> bool
-    ensures { IsTrue result → words_at these.now ≡ words_at those.now }
+    ensures same { IsTrue result → words_at these.now ≡ words_at those.now }
+    ensures other { IsFalse result → words_at these.now ≡ words_at those.now → ⊥ }
 {
     if these.len() != those.len() {
         return false;
@@ -82,7 +98,11 @@ pub fn do_again(
 ) -> Result<(), PlayRefusal>
     ensures again { OnOk result
         (DidAgain (file_of (file_in accepted.now)) (words_at words.now) node.old node.new) }
+    ensures took { OnOk result ((steps : List (StepAt Place))
+        × Since [] steps None node.old node.new lanes.old.ins.items lanes.new.ins.items) }
     ensures refused { IfErr result IsInside }
+    ensures halts { IfErr result (Halts node.old lanes.old.ins.items
+        (IsNoWork (file_of (file_in accepted.now)) (words_at words.now) node.old)) }
 {
     let Some(text) = lines_of(words) else {
         return Err(PlayRefusal::LogFault);
@@ -90,8 +110,9 @@ pub fn do_again(
     redo_lines(alloc, accepted, node, lanes, text)?;
     let party = node.party();
     let entries = node.take_log();
+    // No memory holds the lanes of so many parties.
     if lanes.outs.len() >= 65_536 {
-        return Err(PlayRefusal::LogFault);
+        return Err(PlayRefusal::NoMemory);
     }
     let made = batch_words(alloc, accepted.file(), party, &entries, &lanes.outs)?;
     if !same_words(&made, words) {

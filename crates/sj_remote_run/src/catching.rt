@@ -1,12 +1,21 @@
 //! How a new process comes to where the party's last one was.
-ghost use Rattle.std.specs.Prelude.{◌≡◌, ◌+◌, ◌<◌, List, ℕ, None, IfErr, IfOk, OnOk, get_or, length, map};
+ghost use Rattle.std.specs.Prelude.{◌≡◌, ◌⊎◌, ◌+◌, ◌<◌, ◌≤◌, List, ℕ, [], ◌∷◌, None, IfErr, IfOk, OnOk, decimal, get_or, length, map, slice_get};
 ghost use Rattle.sj_base.specs.Stream.{put_behind};
 ghost use Rattle.sj_check.specs.Held.{file_in};
 ghost use Rattle.sj_lang.specs.FileView.{file_of};
 ghost use Rattle.sj_remote.specs.Conn.{sink_of};
 ghost use Rattle.sj_remote.specs.Streams.{keys_of, seen_of};
-ghost use Rattle.sj_remote_run.specs.Asked.{IsCause, IsInside, IsOfStreams, Talks};
+ghost use Rattle.sj_remote_run.specs.Asked.{IsCause, IsInside, IsOfStreams, IsUnsent, Talks};
+ghost use Rattle.sj_remote_run.specs.Came.{Brought};
 ghost use Rattle.sj_remote_run.specs.Caught.{DidAll, IsCaughtUp, entries_in, entry_count, reads_text};
+ghost use Rattle.sj_remote_run.specs.Fails.{CatchesUp, Fails, IsLogFault, IsNever, IsNoFrame};
+ghost use Rattle.sj_remote_run.specs.Found.{Halts, IsNoneOfOthers, IsNotNext, IsOddIn, IsOwnOdd, StopsAtEntry};
+ghost use Rattle.sj_remote_run.specs.Since.{Since, Takes, unread_in};
+ghost use Rattle.sj_rules.specs.NodeRun.{StepAt};
+ghost use Rattle.sj_lang.specs.Place.{Place};
+ghost use Rattle.sj_remote.specs.Numbers.{AreUnseen};
+ghost use Rattle.sj_streams.specs.Reading.{CameAt};
+ghost use Rattle.sj_streams.specs.Views.{came_view};
 ghost use Rattle.sj_resp.specs.Spelling.{command_text};
 ghost use Rattle.sj_streams.specs.Commands.{read_words};
 ghost use Rattle.sj_streams.specs.Words.{words_at};
@@ -27,7 +36,11 @@ use std::alloc::Global;
 
 /// Lanes to and from so many parties, on which nothing was sent.
 pub fn new_lanes(alloc: Global, parties: u16) -> Result<Lanes<ByteOut, ByteIn>, PlayRefusal>
-    ensures { IfErr result IsInside }
+    ensures ins { IfOk result (λ lanes. length lanes.ins.items ≡ parties) }
+    ensures outs { IfOk result (λ lanes. length lanes.outs.items ≡ parties) }
+    ensures unread { IfOk result (λ lanes. (q : ℕ) → unread_in lanes.ins.items q ≡ []) }
+    ensures refused { IfErr result IsInside }
+    ensures unsent { IfErr result IsUnsent }
 {
     let mut outs = Vec::new(alloc);
     let mut ins = Vec::new(alloc);
@@ -48,6 +61,15 @@ fn take_one(
     one: Came,
 ) -> Result<(), PlayRefusal>
     ensures keys { keys_of streams.new ≡ keys_of streams.old }
+    ensures takes { OnOk result (name.now ≡ decimal party → Takes party (came_view one ∷ []) ins.old
+        ins.new own.old.items own.new.items (seen_of streams.old) (seen_of streams.new)) }
+    ensures no_frame { IfErr result (λ e. e ≡ PlayRefusal.NoFrame → (one.stream ≡ party → ⊥)
+        × IsNoneOfOthers (λ q. slice_get ins.old q ≡ None) (length (keys_of streams.old))
+        (get_or (seen_of streams.old) one.stream 0) (came_view one)) }
+    ensures log_fault { IfErr result (λ e. e ≡ PlayRefusal.LogFault → (one.stream ≡ party)
+        × ((length (keys_of streams.old) ≤ one.stream)
+        ⊎ IsNotNext (get_or (seen_of streams.old) one.stream 0) (came_view one))) }
+    ensures fits { IfErr result (λ e. e ≡ PlayRefusal.Unfit → ⊥) }
     ensures count { OnOk result (get_or (seen_of streams.old) party 0 ≡ entry_count own.old.items
         → get_or (seen_of streams.new) party 0 ≡ entry_count own.new.items) }
     ensures refused { IfErr result IsInside }
@@ -85,6 +107,14 @@ fn read_once<S: Source, K: Sink>(
     ensures talked { OnOk result (Talks S.left S.faults K.faults conn.old conn.new) }
     ensures refused { IfErr result (IsCause S.left S.faults S.has_ended K.faults
         (IsOfStreams (words_at (keys_of streams.old)) party) conn.old conn.new) }
+    ensures takes { OnOk result ((cs : List CameAt)
+        × Brought S.left (words_at (keys_of streams.old)) cs conn.old conn.new
+        × Takes party cs ins.old ins.new own.old.items own.new.items (seen_of streams.old)
+        (seen_of streams.new)) }
+    ensures fails { IfErr result (Fails S.left (words_at (keys_of streams.old))
+        (IsOddIn (λ q. slice_get ins.old q ≡ None) (length (keys_of streams.old))
+        (seen_of streams.old) party) IsNever
+        (IsOwnOdd (length (keys_of streams.old)) (seen_of streams.old) party) conn.old conn.new) }
 {
     let name = name_of(alloc, party)?;
     let mut text = Vec::new(alloc);
@@ -119,6 +149,14 @@ pub fn read_all<S: Source, K: Sink>(
     ensures talked { OnOk result (Talks S.left S.faults K.faults conn.old conn.new) }
     ensures refused { IfErr result (IsCause S.left S.faults S.has_ended K.faults
         (IsOfStreams (words_at (keys_of streams.old)) party) conn.old conn.new) }
+    ensures takes { OnOk result ((cs : List CameAt)
+        × Brought S.left (words_at (keys_of streams.old)) cs conn.old conn.new
+        × Takes party cs ins.old ins.new own.old.items own.new.items (seen_of streams.old)
+        (seen_of streams.new)) }
+    ensures fails { IfErr result (Fails S.left (words_at (keys_of streams.old))
+        (IsOddIn (λ q. slice_get ins.old q ≡ None) (length (keys_of streams.old))
+        (seen_of streams.old) party) IsNever
+        (IsOwnOdd (length (keys_of streams.old)) (seen_of streams.old) party) conn.old conn.new) }
 {
     for _ in 0..u64::MAX {
         if !read_once(alloc, conn, streams, ins, party, own)? {
@@ -138,7 +176,12 @@ fn redo_came(
 ) -> Result<(), PlayRefusal>
     ensures did { OnOk result (DidAll (file_of (file_in accepted.now))
         (map (λ e. words_at e.items) entries.now) node.old node.new) }
+    ensures took { OnOk result ((steps : List (StepAt Place))
+        × Since [] steps None node.old node.new lanes.old.ins.items lanes.new.ins.items) }
     ensures refused { IfErr result IsInside }
+    ensures halts { IfErr result (Halts node.old lanes.old.ins.items
+        (StopsAtEntry (file_of (file_in accepted.now)) (map (λ e. words_at e.items) entries.now)
+        node.old)) }
 {
     for words in entries {
         do_again(alloc, accepted, node, lanes, words)?;
@@ -156,7 +199,11 @@ fn redo_all(
 ) -> Result<(), PlayRefusal>
     ensures did { OnOk result (DidAll (file_of (file_in accepted.now))
         (entries_in own.now) node.old node.new) }
+    ensures took { OnOk result ((steps : List (StepAt Place))
+        × Since [] steps None node.old node.new lanes.old.ins.items lanes.new.ins.items) }
     ensures refused { IfErr result IsInside }
+    ensures halts { IfErr result (Halts node.old lanes.old.ins.items
+        (StopsAtEntry (file_of (file_in accepted.now)) (entries_in own.now) node.old)) }
 {
     for came in own {
         redo_came(alloc, accepted, node, lanes, &came.entries)?;
@@ -184,6 +231,16 @@ pub(crate) fn catch_up<S: Source, K: Sink>(
     ensures talked { OnOk result (Talks S.left S.faults K.faults conn.old conn.new) }
     ensures refused { IfErr result (IsCause S.left S.faults S.has_ended K.faults
         (IsOfStreams (words_at (keys_of streams.old)) party) conn.old conn.new) }
+    ensures came { IfOk result (λ r. (cs : List CameAt)
+        × Brought S.left (words_at (keys_of streams.old)) cs conn.old conn.new
+        × CatchesUp (file_of (file_in accepted.now)) party cs (seen_of streams.old)
+        (seen_of streams.new) r.0 r.1.ins.items) }
+    ensures fails { AreUnseen (seen_of streams.old)
+        → length (keys_of streams.old) ≡ length (file_of (file_in accepted.now)).parties
+        → IfErr result (Fails S.left (words_at (keys_of streams.old))
+        (IsNoFrame (file_of (file_in accepted.now)) party) IsNever
+        (IsLogFault (file_of (file_in accepted.now)) party)
+        conn.old conn.new) }
 {
     let mut lanes = new_lanes(alloc, accepted.file().parties.len() as u16)?;
     let mut own = Vec::new(alloc);

@@ -1,6 +1,6 @@
 //! What each refusal below means for a party that is played.
 ghost use Rattle.std.specs.Prelude.{◌≡◌};
-ghost use Rattle.sj_remote_run.specs.Asked.{IsInside};
+ghost use Rattle.sj_remote_run.specs.Asked.{IsInside, IsUnsent};
 ghost use Rattle.sj_remote_run.specs.Causes.{conn_means as conn_cause};
 ghost use Rattle.sj_remote_run.specs.Causes.{misread_means as misread_cause};
 ghost use Rattle.sj_remote_run.specs.Causes.{password_means as password_cause};
@@ -72,6 +72,7 @@ pub(crate) fn misread_means(misread: Misread) -> PlayRefusal
 pub fn spell_means(refusal: SpellRefusal) -> PlayRefusal
     ensures cause { result ≡ spell_cause refusal }
     ensures inside { IsInside result }
+    ensures unsent { IsUnsent result }
 {
     match refusal {
         SpellRefusal::Unlawful => PlayRefusal::TooLong,

@@ -2,7 +2,7 @@
 ghost use Rattle.std.specs.Prelude.{◌≡◌, ◌<◌, ◌≤◌, ◌++◌, ◌^◌, length, map, IfErr, IfOk, OnOk};
 ghost use Rattle.sj_engine.specs.Lanes.{pushed_on};
 ghost use Rattle.sj_lang.specs.FileView.{file_of};
-ghost use Rattle.sj_remote_run.specs.Asked.{IsInside};
+ghost use Rattle.sj_remote_run.specs.Asked.{IsInside, IsUnsent};
 ghost use Rattle.sj_remote_run.specs.Entries.{entry_words, lane_words, lines_text};
 ghost use Rattle.sj_streams.specs.Words.{words_at};
 
@@ -29,6 +29,7 @@ pub(crate) fn lines_of_entries(
         ≡ lines_text (file_of file.now) party entries.now) }
     ensures short { IfOk result (λ text. length text.items ≤ 16777216) }
     ensures refused { IfErr result IsInside }
+    ensures unsent { IfErr result IsUnsent }
 {
     let mut text = Vec::new(alloc);
     for &entry in entries {
@@ -51,6 +52,7 @@ fn add_lane(
     ensures frames { OnOk result (words_at words.new.items
         ≡ words_at words.old.items ++ lane_words party to (pushed_on lane.now)) }
     ensures refused { IfErr result IsInside }
+    ensures unsent { IfErr result IsUnsent }
 {
     if to == party || lane.is_empty() {
         return Ok(());
@@ -76,6 +78,7 @@ pub fn batch_words(
     ensures words { IfOk result (λ words. words_at words.items
         ≡ entry_words (file_of file.now) party entries.now (map pushed_on outs.now)) }
     ensures refused { IfErr result IsInside }
+    ensures unsent { IfErr result IsUnsent }
 {
     let lines = lines_of_entries(alloc, file, party, entries)?;
     let mut words = begin_batch(alloc, lines)?;

@@ -1,5 +1,5 @@
 //! A party, played over a connection.
-ghost use Rattle.std.specs.Prelude.{◌≡◌, ◌<◌, [], IfErr, IfOk, get_or, length};
+ghost use Rattle.std.specs.Prelude.{◌≡◌, ◌⊎◌, ◌<◌, [], None, IfErr, IfOk, get_or, length, slice_get};
 ghost use Rattle.sj_check.specs.Held.{file_in};
 ghost use Rattle.sj_lang.specs.FileView.{file_of};
 ghost use Rattle.sj_node.specs.Node.{log_of};
@@ -8,9 +8,11 @@ ghost use Rattle.sj_remote.specs.Conn.{sink_of};
 ghost use Rattle.sj_party.specs.CanonicalFile.{file_text};
 ghost use Rattle.sj_remote.specs.Streams.{keys_of, log_keys, seen_of};
 ghost use Rattle.sj_remote_run.specs.Asked.{IsCause, IsInPlay, IsOfStreams, sign_count};
+ghost use Rattle.sj_remote_run.specs.Fails.{Fails, IsLogFault, IsNever, IsNoFrame, IsUnfit};
+ghost use Rattle.sj_remote_run.specs.Found.{IsBrokenIn, IsOddIn, IsUnfitIn};
 ghost use Rattle.sj_remote_run.specs.Played.{GoesOn, IsPlayed};
 ghost use Rattle.sj_remote_run.specs.Sent.{text_sent};
-ghost use Rattle.sj_remote_run.specs.Turns.{node_in};
+ghost use Rattle.sj_remote_run.specs.Turns.{ins_in, node_in};
 ghost use Rattle.sj_streams.specs.Words.{words_at};
 
 use crate::catching::catch_up;
@@ -54,6 +56,11 @@ fn go_on<S: Source, K: Sink>(
     ensures refused { IfErr result (IsCause S.left S.faults S.has_ended K.faults
         (IsOfStreams (words_at (keys_of streams.old)) (party_of (node_in player)))
         conn.old conn.new) }
+    ensures fails { IfErr result (Fails S.left (words_at (keys_of streams.old))
+        (λ cs. IsOddIn (λ q. slice_get (ins_in player) q ≡ None) (length (keys_of streams.old))
+        (seen_of streams.old) (party_of (node_in player)) cs
+        ⊎ IsBrokenIn (node_in player) (ins_in player) cs)
+        (IsUnfitIn (node_in player) (ins_in player)) IsNever conn.old conn.new) }
 {
     let file = accepted.file();
     let mut player = player;
@@ -87,6 +94,11 @@ pub fn play_party<S: Source + Drop, K: Sink + Drop>(
         (IsInPlay (sign_count how.now.password) (file_text (file_of (file_in accepted.now)))
         (log_keys how.now.run.now (length (file_of (file_in accepted.now)).parties))
         how.now.party) conn.old conn.new) }
+    ensures fails { IfErr result (Fails S.left
+        (log_keys how.now.run.now (length (file_of (file_in accepted.now)).parties))
+        (IsNoFrame (file_of (file_in accepted.now)) how.now.party)
+        (IsUnfit (file_of (file_in accepted.now)) how.now.party)
+        (IsLogFault (file_of (file_in accepted.now)) how.now.party) conn.old conn.new) }
 {
     sign_in(alloc, conn, how.user, how.password)?;
     share(alloc, conn, accepted.file(), how.run)?;

@@ -1,7 +1,11 @@
 //! A party that is played, and all that it can do before it must wait.
-ghost use Rattle.std.specs.Prelude.{◌≡◌, IfErr, IfOk};
+ghost use Rattle.std.specs.Prelude.{◌≡◌, [], List, None, IfErr, IfOk};
 ghost use Rattle.sj_remote_run.specs.Asked.{IsInside};
-ghost use Rattle.sj_remote_run.specs.Turns.{Goes, outcome_by};
+ghost use Rattle.sj_lang.specs.Place.{Place};
+ghost use Rattle.sj_remote_run.specs.Found.{HasNoFrame, IsUnfitIn, Stuck};
+ghost use Rattle.sj_remote_run.specs.Since.{Since};
+ghost use Rattle.sj_remote_run.specs.Turns.{Goes, ins_in, node_in, outcome_by};
+ghost use Rattle.sj_rules.specs.NodeRun.{StepAt};
 
 use crate::causes::spell_means;
 use crate::{Outcome, PlayRefusal};
@@ -39,6 +43,13 @@ impl Player {
     pub(crate) fn go(self, alloc: Global) -> Result<(Player, Outcome, Vec<Entry>), PlayRefusal>
         ensures goes { IfOk result (λ r. Goes self r.0 r.1 r.2.items) }
         ensures refused { IfErr result IsInside }
+        ensures took { IfOk result (λ r. (steps : List (StepAt Place))
+            × Since [] steps None (node_in self) (node_in r.0) (ins_in self) (ins_in r.0)) }
+        ensures no_frame { IfErr result (λ e. e ≡ PlayRefusal.NoFrame
+            → Stuck (node_in self) (ins_in self) HasNoFrame) }
+        ensures unfit { IfErr result (λ e. e ≡ PlayRefusal.Unfit
+            → IsUnfitIn (node_in self) (ins_in self) []) }
+        ensures log_fault { IfErr result (λ e. e ≡ PlayRefusal.LogFault → ⊥) }
     {
         let mut worker = Worker::new(self.node, self.lanes);
         let stop = match batches(alloc, &mut worker, &NoGate) {

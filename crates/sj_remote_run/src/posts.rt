@@ -1,7 +1,7 @@
 //! What waits at a node, pushed on its lanes.
-ghost use Rattle.std.specs.Prelude.{IfErr};
-ghost use Rattle.sj_node.specs.Reading.{TakesOut};
-ghost use Rattle.sj_remote_run.specs.Asked.{IsInside};
+ghost use Rattle.std.specs.Prelude.{◌≡◌, ℕ, IfErr, slice_get};
+ghost use Rattle.sj_node.specs.Reading.{TakesOut, party_of};
+ghost use Rattle.sj_remote_run.specs.Asked.{IsInside, IsUnsent};
 
 use crate::PlayRefusal;
 use crate::causes::spell_means;
@@ -14,6 +14,7 @@ use std::alloc::Global;
 fn push_out(node: &mut Node, to: u16, lane: &mut ByteOut) -> Result<(), PlayRefusal>
     ensures node { TakesOut node.old node.new }
     ensures refused { IfErr result IsInside }
+    ensures unsent { IfErr result IsUnsent }
 {
     for _ in 0..u64::MAX {
         match node.take_out(to) {
@@ -36,13 +37,16 @@ pub fn push_all(
     lanes: &mut Lanes<ByteOut, ByteIn>,
 ) -> Result<(), PlayRefusal>
     ensures node { TakesOut node.old node.new }
+    ensures ins { (q : ℕ) → (q ≡ party_of node.old → ⊥)
+        → slice_get lanes.new.ins.items q ≡ slice_get lanes.old.ins.items q }
     ensures refused { IfErr result IsInside }
+    ensures unsent { IfErr result IsUnsent }
 {
     for to in 0..node.targets() {
-        if usize::from(to) >= lanes.outs.len() {
-            return Err(PlayRefusal::LogFault);
+        // A missing lane is left out.
+        if usize::from(to) < lanes.outs.len() {
+            push_out(node, to, &mut lanes.outs[usize::from(to)])?;
         }
-        push_out(node, to, &mut lanes.outs[usize::from(to)])?;
     }
     match carry_home(alloc, lanes, node.party()) {
         Ok(_) => Ok(()),

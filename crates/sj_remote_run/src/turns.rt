@@ -1,5 +1,5 @@
 //! A turn's talk with the server: what a party noted is added, and what comes then is taken.
-ghost use Rattle.std.specs.Prelude.{◌≡◌, ◌+◌, ◌++◌, IfErr, OnOk, Some, get_or, map};
+ghost use Rattle.std.specs.Prelude.{◌≡◌, ◌+◌, ◌++◌, List, None, IfErr, OnOk, Some, get_or, length, map, slice_get};
 ghost use Rattle.sj_base.specs.Stream.{put_behind};
 ghost use Rattle.sj_engine.specs.Lanes.{pushed_on};
 ghost use Rattle.sj_lang.specs.FileView.{file_of};
@@ -7,10 +7,15 @@ ghost use Rattle.sj_node.specs.Reading.{party_of};
 ghost use Rattle.sj_remote.specs.Conn.{sink_of};
 ghost use Rattle.sj_remote.specs.Streams.{keys_of, seen_of};
 ghost use Rattle.sj_remote_run.specs.Asked.{IsCause, IsOfStreams, IsUntaken, Talks};
+ghost use Rattle.sj_remote_run.specs.Came.{Brought};
+ghost use Rattle.sj_remote_run.specs.Fails.{Fails, IsNever};
+ghost use Rattle.sj_remote_run.specs.Found.{IsOddIn};
 ghost use Rattle.sj_remote_run.specs.Refused.{IsNotAdded, IsUnanswered};
-ghost use Rattle.sj_remote_run.specs.Turns.{added_count, batch_text, next_seen, node_in, outs_in};
+ghost use Rattle.sj_remote_run.specs.Since.{TakesOthers};
+ghost use Rattle.sj_remote_run.specs.Turns.{added_count, batch_text, ins_in, next_seen, node_in, outs_in};
 ghost use Rattle.sj_resp.specs.Spelling.{command_text};
 ghost use Rattle.sj_streams.specs.Commands.{read_words};
+ghost use Rattle.sj_streams.specs.Reading.{CameAt};
 ghost use Rattle.sj_streams.specs.Views.{came_view};
 ghost use Rattle.sj_streams.specs.Words.{words_at};
 
@@ -56,6 +61,13 @@ fn take_all(
     ensures node { node_in player.new ≡ node_in player.old }
     ensures refused { IfErr result
         (IsUntaken (party_of (node_in player.old)) (map came_view all.now)) }
+    ensures takes { OnOk result (TakesOthers (party_of (node_in player.old)) (map came_view all.now)
+        (ins_in player.old) (ins_in player.new) (seen_of streams.old) (seen_of streams.new)) }
+    ensures no_frame { IfErr result (λ e. e ≡ PlayRefusal.NoFrame
+        → IsOddIn (λ q. slice_get (ins_in player.old) q ≡ None) (length (keys_of streams.old))
+        (seen_of streams.old) (party_of (node_in player.old)) (map came_view all.now)) }
+    ensures fits { IfErr result (λ e. e ≡ PlayRefusal.Unfit → ⊥) }
+    ensures log_fault { IfErr result (λ e. e ≡ PlayRefusal.LogFault → ⊥) }
 {
     let party = player.node.party();
     let name = name_of(alloc, party)?;
@@ -94,6 +106,13 @@ pub fn exchange<S: Source, K: Sink>(
     ensures refused { IfErr result (IsCause S.left S.faults S.has_ended K.faults
         (IsOfStreams (words_at (keys_of streams.old)) (party_of (node_in player.old)))
         conn.old conn.new) }
+    ensures takes { OnOk result ((cs : List CameAt)
+        × Brought S.left (words_at (keys_of streams.old)) cs conn.old conn.new
+        × TakesOthers (party_of (node_in player.old)) cs (ins_in player.old) (ins_in player.new)
+        (seen_of streams.old) (seen_of streams.new)) }
+    ensures fails { IfErr result (Fails S.left (words_at (keys_of streams.old))
+        (IsOddIn (λ q. slice_get (ins_in player.old) q ≡ None) (length (keys_of streams.old))
+        (seen_of streams.old) (party_of (node_in player.old))) IsNever IsNever conn.old conn.new) }
 {
     let mut text = Vec::new(alloc);
     put_batch(alloc, &mut text, file, player, streams, noted)?;
@@ -129,6 +148,8 @@ pub fn add<S: Source, K: Sink>(
     ensures refused { IfErr result (IsCause S.left S.faults S.has_ended K.faults
         (IsOfStreams (words_at (keys_of streams.old)) (party_of (node_in player.old)))
         conn.old conn.new) }
+    ensures fails { IfErr result (Fails S.left (words_at (keys_of streams.old)) IsNever IsNever
+        IsNever conn.old conn.new) }
 {
     let mut text = Vec::new(alloc);
     put_batch(alloc, &mut text, file, player, streams, noted)?;

@@ -6,8 +6,9 @@ use Rattle.sj_rules.specs.Mapped.{frame_with}
 use Rattle.sj_table.specs.declared.table.Spot.{Spot}
 use Rattle.sj_end.specs.Views.{frame_at}
 use Rattle.sj_wire.specs.Front.{front_of, Whole}
-use Rattle.sj_engine.specs.Frames.{UsesOne, frames_in}
+use Rattle.sj_engine.specs.Frames.{IsBroken, UsesOne, frames_in}
 use Rattle.sj_engine.specs.Lanes.{as_told}
+use Rattle.sj_engine.proofs.BrokenLemmas.{not_broken, refused_broken}
 use Rattle.sj_engine.specs.declared.in_lane.ByteIn.{ByteIn}
 use Rattle.sj_engine.proofs.in_lane.ByteInInLane.pop.Goals as goal
 
@@ -32,10 +33,28 @@ invariant_of-self c =
     let u = uses old c.deref.result.now c.front_size-size.result (frame_at c.in-Ok-Some.frame) c.next.new.self c.deref.ensures.value c.front_size-size.ensures (rw c.in-Ok-Some.field-0-is at c.in-Ok-Some.ensures.frame) in
     let w = u.within in
     let k = old.bytes.ok in
-    record { within = omega (arith, w, k); left = u.left; whole = u.whole; spelt = u.spelt }
+    let front : front_of old.decoder ≡ Whole (frame_at c.in-Ok-Some.frame) c.next.new.self = rw c.in-Ok-Some.field-0-is at c.in-Ok-Some.ensures.frame in
+    record {
+      within = omega (arith, w, k);
+      left = u.left;
+      broken = λ some. absurd (not_broken old.decoder (frame_at c.in-Ok-Some.frame) c.next.new.self front (old.broken some));
+      whole = u.whole;
+      spelt = u.spelt;
+    }
 
 pub returns-in-Ok-Some-clause-told : goal.returns-in-Ok-Some-clause-told
 returns-in-Ok-Some-clause-told c =
     let old = c.args.self.now in
     let u = uses old c.deref.result.now c.front_size-size.result (frame_at c.in-Ok-Some.frame) c.next.new.self c.deref.ensures.value c.front_size-size.ensures (rw c.in-Ok-Some.field-0-is at c.in-Ok-Some.ensures.frame) in
     ap Some (ap as_told u.frames ∙ map-append (frame_with (λ s. done)) (frames_in (take old.used old.bytes.items)) (frame_at c.in-Ok-Some.frame ∷ []))
+
+pub invariant_of-self-in-Err : goal.invariant_of-self-in-Err
+invariant_of-self-in-Err c =
+    let old = c.args.self.now in
+    record {
+      within = old.within;
+      left = c.in-Err.ensures.err ∙ old.left;
+      broken = λ some. subst IsBroken (sym c.in-Err.ensures.err) (refused_broken c.in-Err.refusal old.decoder (c.lacks_memory.ensures c.if-lacks_memory.false) c.in-Err.ensures.refused);
+      whole = old.whole;
+      spelt = old.spelt;
+    }
